@@ -1,0 +1,26 @@
+-- The starred cases hold, all of them, by computation. Assumes nothing.
+use mathlib.Core.Path.{_≡_, refl}
+use mathlib.Core.Bool.{true}
+use mathlib.Core.List.{flatMap, flatten}
+use Rattle.lists.specs.Lists.{range, all, any, keep, count, total, same, ascendsFrom, ascending, insert, sort}
+use Rattle.lists.specs.Refusal.{first}
+use Rattle.packed.specs.Field.{bitAt, fieldAt, fillSet}
+use Rattle.graph.specs.Graph.{covers, linked, portionLength}
+use Rattle.graph.specs.File.{graphOf, graphFault}
+use Rattle.graph.specs.Store.{offsets, entries, storeOf, loadFault, loadStore, graphIn, wellFormed, storeFault}
+use Rattle.query.specs.Query.{reached, connected}
+use Rattle.query.specs.File.{queryOf, queryFault}
+use Rattle.plan.specs.Check.{joinable, ruleFault, covered, endFault, rulesFault}
+use Rattle.plan.specs.File.{place, operatorsOf, planFault, checkFault}
+use Rattle.matching.specs.Row.{members, pack, look}
+use Rattle.matching.specs.Match.{fits, holds, permits}
+use Rattle.operators.specs.Scan.{scans, scanRows}
+use Rattle.operators.specs.Extend.{candidates, grown, sameUsed, reuses, extendAfter, extendRows, portionFor, rowCost, costAfter, extendCost}
+use Rattle.operators.specs.Join.{agree, partners, joinRows, heads}
+use Rattle.run.specs.Pile.{apply, costOf, buildOf, probeOf, tableOf, topWords, needOf, pileAfter, sumOver, needFrom}
+use Rattle.run.specs.Run.{topRows, planRows, planCost, planBuild, planProbe, planNeed, runFault, runAnswer, runList}
+use Rattle.cases.specs.Cases.{passes, starred}
+
+pub starred-pass : all passes starred ≡ true
+unfolding passes starred flatMap flatten range all any keep count total same ascendsFrom ascending insert sort first bitAt fieldAt fillSet covers linked portionLength graphOf graphFault offsets entries storeOf loadFault loadStore graphIn wellFormed storeFault reached connected queryOf queryFault joinable ruleFault covered endFault rulesFault place operatorsOf planFault checkFault members pack look fits holds permits scans scanRows candidates grown sameUsed reuses extendAfter extendRows portionFor rowCost costAfter extendCost agree partners joinRows heads apply costOf buildOf probeOf tableOf topWords needOf pileAfter sumOver needFrom topRows planRows planCost planBuild planProbe planNeed runFault runAnswer runList
+starred-pass = refl

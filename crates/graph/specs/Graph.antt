@@ -1,0 +1,55 @@
+-- A labelled graph: 'items are vertices, connections labelled edges'. Assumes nothing.
+use mathlib.Core.Bool.{Bool, _&&_}
+use mathlib.Core.List.{List, []}
+use Prim.Native.Nat.{ℕ, _+_, _*_}
+use lib.Dec.{eqb, ltb}
+use lib.ListN.{length, getD}
+use Rattle.lists.specs.Lists.{any, count}
+
+-- An edge of a label, of a graph or of a query.
+pub record Edge : Type 0 where
+  pub source : ℕ
+  pub label : ℕ
+  pub target : ℕ
+
+-- Vertices 0 to N-1 with a label each, and edges in the file's order.
+pub record Graph : Type 0 where
+  pub vertices : ℕ
+  pub labels : List ℕ
+  pub edges : List Edge
+
+-- The two ways along an edge. The near end is where the way starts.
+pub data Direction : Type 0 where
+  forward backward : Direction
+
+abbrev pub near : Direction → Edge → ℕ
+near forward e = e .source
+near backward e = e .target
+
+abbrev pub far : Direction → Edge → ℕ
+far forward e = e .target
+far backward e = e .source
+
+-- An entry: 'label × 65,536 + neighbour'.
+abbrev pub entry : Direction → Edge → ℕ
+entry d e = e .label * 65536 + far d e
+
+-- (near end, label, far end) as one number: edges ascend 'by (source, label, target)' where their forward keys do.
+abbrev pub key : Direction → Edge → ℕ
+key d e = near d e * 16777216 + entry d e
+
+-- Which edge labels the portion for a query's label covers: its equal.
+unfoldable pub covers : ℕ → ℕ → Bool
+covers l k = eqb k l
+
+-- 'The file has an edge of its label, from the number of its first end to that of its second.'
+unfoldable pub linked : Graph → ℕ → ℕ → ℕ → Bool
+linked g l x y = any (λ (e : Edge). eqb (e .source) x && covers l (e .label) && eqb (e .target) y) (g .edges)
+
+-- The length of a vertex's portion for a label, in one direction.
+unfoldable pub portionLength : Graph → Direction → ℕ → ℕ → ℕ
+portionLength g d l x = count (λ (e : Edge). eqb (near d e) x && covers l (e .label)) (g .edges)
+
+-- A vertex's label in the graph file.
+abbrev pub labelOf : Graph → ℕ → ℕ
+labelOf g x = getD (g .labels) x 0

@@ -1,0 +1,1 @@
+// The graph: specs/ has its file and its store.

@@ -1,0 +1,1 @@
+// The vocabulary of the definitions: this crate has no code, only specs/ and the laws in proofs/.

@@ -1,0 +1,3 @@
+-- What a match is, and how an assignment stands in a row.
+pub mod Row
+pub mod Match

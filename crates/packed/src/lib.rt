@@ -1,0 +1,1 @@
+// Packed files: specs/ has the fields.

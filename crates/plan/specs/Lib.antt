@@ -1,0 +1,4 @@
+-- The plan: operators in postfix order, their file, and the faults for which Check plan refuses one.
+pub mod Plan
+pub mod Check
+pub mod File

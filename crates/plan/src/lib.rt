@@ -1,0 +1,1 @@
+// The plan: specs/ has its file and the rules of Check plan.

@@ -1,0 +1,89 @@
+-- The query file: 'n vertices (4 bits, 2 to 8), m edges (5 bits, 1 to 24), n vertex labels (16), then m edges of from (3),
+-- to (3), label (8), ascending strictly', and the faults for which Read query refuses one. Assumes nothing.
+use mathlib.Core.Bool.{Bool, true, not, _&&_, _||_}
+use mathlib.Core.List.{List, [], _∷_, _++_, map}
+use Prim.Native.Nat.{ℕ, zero, suc, _+_, _*_}
+use lib.Dec.{eqb, leb, ltb}
+use lib.ListN.{length}
+use Rattle.lists.specs.Lists.{range}
+use Rattle.lists.specs.Refusal.{refuse, first}
+use Rattle.packed.specs.Field.{fieldAt, bytesFor, fillSet}
+use Rattle.graph.specs.Graph.{Edge}
+use Rattle.query.specs.Query.{Query, connected}
+
+abbrev pub minVertices : ℕ
+minVertices = 2
+
+abbrev pub maxVertices : ℕ
+maxVertices = 8
+
+abbrev pub minEdges : ℕ
+minEdges = 1
+
+abbrev pub maxEdges : ℕ
+maxEdges = 24
+
+-- n and m.
+abbrev pub vertexCount : List ℕ → ℕ
+vertexCount s = fieldAt s 0 4
+
+abbrev pub edgeCount : List ℕ → ℕ
+edgeCount s = fieldAt s 4 5
+
+abbrev pub edgeStart : List ℕ → ℕ → ℕ
+edgeStart s i = 9 + 16 * vertexCount s + 14 * i
+
+abbrev pub edgeIn : List ℕ → ℕ → Edge
+edgeIn s i =
+    record {
+      source = fieldAt s (edgeStart s i) 3;
+      label = fieldAt s (edgeStart s i + 6) 8;
+      target = fieldAt s (edgeStart s i + 3) 3;
+    }
+
+-- The query that a file holds.
+unfoldable pub queryOf : List ℕ → Query
+queryOf s =
+    record {
+      vertices = vertexCount s;
+      labels = map (λ (w : ℕ). fieldAt s (9 + 16 * w) 16) (range (vertexCount s));
+      edges = map (edgeIn s) (range (edgeCount s));
+    }
+
+-- '8 n or m outside its limits.'
+abbrev pub outsideLimits : List ℕ → Bool
+outsideLimits s =
+    not (leb minVertices (vertexCount s) && leb (vertexCount s) maxVertices
+    && leb minEdges (edgeCount s) && leb (edgeCount s) maxEdges)
+
+abbrev pub fileSize : List ℕ → ℕ
+fileSize s = bytesFor (edgeStart s (edgeCount s))
+
+-- '9 a vertex not below n, equal ends or label 0.' No other edge label is turned away.
+abbrev pub badEdge : ℕ → Edge → Bool
+badEdge n e = not (ltb (e .source) n && ltb (e .target) n) || eqb (e .source) (e .target) || eqb (e .label) 0
+
+-- (from, to, label) as one number.
+abbrev pub key : Edge → ℕ
+key e = (e .source * 8 + e .target) * 256 + e .label
+
+-- Edges i - 1 and i ascend strictly; there is none before the first.
+abbrev pub ascends : List ℕ → ℕ → Bool
+ascends s zero = true
+ascends s (suc i) = ltb (key (edgeIn s i)) (key (edgeIn s (suc i)))
+
+-- '9 a vertex not below n, equal ends or label 0, 10 not ascending', of one edge.
+abbrev pub edgeFault : List ℕ → ℕ → ℕ
+edgeFault s i = first (refuse 9 (badEdge (vertexCount s) (edgeIn s i)) ∷ refuse 10 (not (ascends s i)) ∷ [])
+
+-- '6 under 2 bytes; 8 n or m outside its limits; 6 shorter than its own size; 7 longer, or a fill bit set; then by edge, 9
+-- .., 10 ..; 11 not connected.'
+unfoldable pub queryFault : List ℕ → ℕ
+queryFault s =
+    first
+    (refuse 6 (ltb (length s) 2)
+    ∷ refuse 8 (outsideLimits s)
+    ∷ refuse 6 (ltb (length s) (fileSize s))
+    ∷ refuse 7 (ltb (fileSize s) (length s))
+    ∷ refuse 7 (fillSet s (edgeStart s (edgeCount s)))
+    ∷ (map (edgeFault s) (range (edgeCount s)) ++ (refuse 11 (not (connected (queryOf s))) ∷ [])))

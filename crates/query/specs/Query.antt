@@ -1,0 +1,52 @@
+-- A query: a small labelled graph whose vertices are to be matched. Assumes nothing.
+use mathlib.Core.Bool.{Bool, _&&_, _||_}
+use mathlib.Core.List.{List, [], _∷_}
+use Prim.Native.Nat.{ℕ, zero, suc}
+use lib.Dec.{eqb}
+use lib.ListN.{getD}
+use Rattle.lists.specs.Lists.{range, all, any, keep}
+use Rattle.graph.specs.Graph.{Edge}
+
+pub record Query : Type 0 where
+  pub vertices : ℕ
+  pub labels : List ℕ
+  pub edges : List Edge
+
+-- A query vertex's label; 0 fits every data vertex.
+abbrev pub wanted : Query → ℕ → ℕ
+wanted q w = getD (q .labels) w 0
+
+-- The query edge of an index.
+abbrev pub edgeAt : Query → ℕ → Edge
+edgeAt q i = getD (q .edges) i (record { source = 0; label = 0; target = 0 })
+
+-- A set S of query vertices.
+abbrev pub VertexSet : Type 0
+VertexSet = ℕ → Bool
+
+-- The set of a list's elements.
+abbrev pub among : List ℕ → VertexSet
+among l w = any (λ (u : ℕ). eqb u w) l
+
+-- The edge has both ends in S.
+abbrev pub inside : VertexSet → Edge → Bool
+inside S e = S (e .source) && S (e .target)
+
+-- The edge runs between v and S, in either direction.
+abbrev pub between : ℕ → VertexSet → Edge → Bool
+between v S e = eqb (e .source) v && S (e .target) || S (e .source) && eqb (e .target) v
+
+-- Some query edge runs between v and S.
+abbrev pub touches : Query → ℕ → VertexSet → Bool
+touches q v S = any (between v S) (q .edges)
+
+-- The vertices that at most k edges in a row lead to from vertex 0, ignoring direction.
+unfoldable pub reached : Query → ℕ → List ℕ
+reached q zero = 0 ∷ []
+reached q (suc k) =
+    let seen = reached q k in
+    keep (λ (w : ℕ). among seen w || touches q w (among seen)) (range (q .vertices))
+
+-- 'Ignoring direction, the query is connected.'
+unfoldable pub connected : Query → Bool
+connected q = all (among (reached q (q .vertices))) (range (q .vertices))
