@@ -1,0 +1,123 @@
+-- Laws of `all`, `any`, `keep` and `range`. Assumes nothing.
+use mathlib.Core.Path.{_≡_, refl, sym, _∙_, ap, ap₂, subst}
+use mathlib.Core.Logic.{_⊎_, inl, inr}
+use mathlib.Core.Bool.{Bool, true, false, cond, _&&_, _||_, and-assoc, and-true}
+use mathlib.Core.List.{List, [], _∷_, _++_, map, append-nil}
+use Prim.Native.Nat.{ℕ, zero, suc, _+_, _≤_, _<_}
+use native.Mathlib.Nat.{eq-or-lt-of-le, le-of-suc-le-suc, not-suc-le-zero, lt-suc-self, le-suc, lt-of-lt-of-le}
+use native.Mathlib.Omega.{arith}
+use native.Mathlib.Numerals.{add-one}
+use lib.ListN.{length, getD, length-append}
+use lib.Seq.{getD-append-seam}
+use lib.ListN.{List·getD-append}
+use Rattle.lists.specs.Lists.{_⇒_, range, all, any, keep}
+use Rattle.lists.proofs.Tests.{clash, iff, and-l, and-r, and-both}
+
+module _ {A : Type 0} where
+  pub all-append : (p : A → Bool) (xs ys : List A) → all p (xs ++ ys) ≡ (all p xs && all p ys)
+  unfolding all
+  all-append p [] ys = refl
+  all-append p (x ∷ xs) ys = ap (λ (b : Bool). p x && b) (all-append p xs ys) ∙ sym (and-assoc (p x) (all p xs) (all p ys))
+
+  -- What follows from a test of each element passes of all.
+  pub all-follows : (p r : A → Bool) (xs : List A) → all p xs ≡ true → ((x : A) → p x ≡ true → r x ≡ true) → all r xs ≡ true
+  unfolding all
+  all-follows p r [] e h = refl
+  all-follows p r (x ∷ xs) e h =
+      and-both (r x) (all r xs) (h x (and-l (p x) (all p xs) e)) (all-follows p r xs (and-r (p x) (all p xs) e) h)
+
+  -- Two tests that agree on each element that passes s agree on a list of such elements.
+  pub all-under : (s p r : A → Bool) (xs : List A) → all s xs ≡ true → ((x : A) → s x ≡ true → p x ≡ r x) → all p xs ≡ all r xs
+  unfolding all
+  all-under s p r [] e h = refl
+  all-under s p r (x ∷ xs) e h =
+      ap₂ (λ (a b : Bool). a && b) (h x (and-l (s x) (all s xs) e)) (all-under s p r xs (and-r (s x) (all s xs) e) h)
+
+  pub all-and : (p r : A → Bool) (xs : List A) → all (λ x. p x && r x) xs ≡ (all p xs && all r xs)
+  unfolding all
+  all-and p r [] = refl
+  all-and p r (x ∷ xs) =
+      ap (λ (b : Bool). p x && r x && b) (all-and p r xs) ∙ shuffle (p x) (r x) (all p xs) (all r xs)
+    where
+      shuffle : (a b c d : Bool) → (a && b && (c && d)) ≡ (a && c && (b && d))
+      shuffle true true c d = refl
+      shuffle true false true d = refl
+      shuffle true false false d = refl
+      shuffle false b c d = refl
+
+  pub all-keep : (p r : A → Bool) (xs : List A) → all p (keep r xs) ≡ all (λ x. r x ⇒ p x) xs
+  unfolding all keep
+  all-keep p r [] = refl
+  all-keep p r (x ∷ xs) = go (r x) (all-keep p r xs)
+    where
+      go : (b : Bool) → all p (keep r xs) ≡ all (λ y. r y ⇒ p y) xs
+          → all p (cond b (x ∷ keep r xs) (keep r xs)) ≡ ((b ⇒ p x) && all (λ y. r y ⇒ p y) xs)
+      go true e = ap (λ (b : Bool). p x && b) e
+      go false e = e
+
+  pub keep-append : (p : A → Bool) (xs ys : List A) → keep p (xs ++ ys) ≡ keep p xs ++ keep p ys
+  unfolding keep
+  keep-append p [] ys = refl
+  keep-append p (x ∷ xs) ys = go (p x) (keep-append p xs ys)
+    where
+      go : (b : Bool) → keep p (xs ++ ys) ≡ keep p xs ++ keep p ys
+          → cond b (x ∷ keep p (xs ++ ys)) (keep p (xs ++ ys)) ≡ cond b (x ∷ keep p xs) (keep p xs) ++ keep p ys
+      go true e = ap (λ (l : List A). x ∷ l) e
+      go false e = e
+
+  -- Tests that agree on each element that passes s keep the same of a list of such elements.
+  pub keep-under : (s p r : A → Bool) (xs : List A) → all s xs ≡ true → ((x : A) → s x ≡ true → p x ≡ r x) → keep p xs ≡ keep r xs
+  unfolding all keep
+  keep-under s p r [] e h = refl
+  keep-under s p r (x ∷ xs) e h =
+      ap₂ (λ (b : Bool) (l : List A). cond b (x ∷ l) l) (h x (and-l (s x) (all s xs) e)) (keep-under s p r xs (and-r (s x) (all s xs) e) h)
+
+  -- What fails of each element fails of any.
+  pub any-none : (p : A → Bool) (xs : List A) → ((x : A) → p x ≡ false) → any p xs ≡ false
+  unfolding any
+  any-none p [] h = refl
+  any-none p (x ∷ xs) h = rw (h x) (any-none p xs h)
+
+-- ---- range
+
+pub length-range : (n : ℕ) → length (range n) ≡ n
+unfolding range
+length-range zero = refl
+length-range (suc n) = length-append (range n) (n ∷ []) ∙ ap (λ (k : ℕ). k + 1) (length-range n) ∙ add-one n
+
+pub getD-range : (n i : ℕ) → i < n → getD (range n) i 0 ≡ i
+unfolding range
+getD-range zero i h = absurd (not-suc-le-zero h)
+getD-range (suc n) i h = go (getD-range n i) (eq-or-lt-of-le (le-of-suc-le-suc h))
+  where
+    go : (i < n → getD (range n) i 0 ≡ i) → (i ≡ n) ⊎ (i < n) → getD (range n ++ (n ∷ [])) i 0 ≡ i
+    go f (inl e) =
+        subst (λ (k : ℕ). getD (range n ++ (n ∷ [])) k 0 ≡ i) (length-range n ∙ sym e)
+        (getD-append-seam (range n) n [] 0 ∙ sym e)
+    go f (inr l) = List·getD-append (range n) (n ∷ []) 0 i (rw length-range l) ∙ f l
+
+-- A test passes of the numbers below n exactly where it passes of each.
+pub all-range : (p : ℕ → Bool) (n : ℕ) → ((k : ℕ) → k < n → p k ≡ true) → all p (range n) ≡ true
+unfolding all range
+all-range p zero h = refl
+all-range p (suc n) h =
+    all-append p (range n) (n ∷ [])
+    ∙ and-both (all p (range n)) (p n && true) (all-range p n (λ k l. h k (omega arith))) (and-both (p n) true (h n (omega arith)) refl)
+
+pub all-at : (p : ℕ → Bool) (n : ℕ) → all p (range n) ≡ true → (k : ℕ) → k < n → p k ≡ true
+unfolding all range
+all-at p zero e k h = absurd (not-suc-le-zero h)
+all-at p (suc n) e k h = go (λ (r : all p (range n) ≡ true). all-at p n r k) (eq-or-lt-of-le (le-of-suc-le-suc h))
+  where
+    both : (all p (range n) && (p n && true)) ≡ true
+    both = sym (all-append p (range n) (n ∷ [])) ∙ e
+
+    go : (all p (range n) ≡ true → k < n → p k ≡ true) → (k ≡ n) ⊎ (k < n) → p k ≡ true
+    go f (inl i) = rw i (and-l (p n) true (and-r (all p (range n)) (p n && true) both))
+    go f (inr l) = f (and-l (all p (range n)) (p n && true) both) l
+
+-- Tests that agree below n agree on the numbers below n.
+pub all-range-ext : (p r : ℕ → Bool) (n : ℕ) → ((k : ℕ) → k < n → p k ≡ r k) → all p (range n) ≡ all r (range n)
+all-range-ext p r n h =
+    iff (all p (range n)) (all r (range n))
+    (λ e. all-range r n (λ k l. sym (h k l) ∙ all-at p n e k l)) (λ e. all-range p n (λ k l. h k l ∙ all-at r n e k l))

@@ -1,0 +1,168 @@
+-- Laws of `count` and `total`. Assumes nothing.
+use mathlib.Core.Path.{_≡_, refl, sym, _∙_, ap, ap₂}
+use mathlib.Core.Bool.{Bool, true, false, cond, _&&_}
+use mathlib.Core.List.{List, [], _∷_, _++_, map, flatMap}
+use Prim.Native.Nat.{ℕ, zero, suc, _+_, _≤_, _<_}
+use native.Mathlib.Nat.{zero-add, add-zero, add-assoc, add-left-comm, add-comm}
+use native.Mathlib.Numerals.{add-one}
+use native.Mathlib.Omega.{arith}
+use lib.Dec.{eqb, ltb}
+use lib.ListN.{length}
+use borrow.Author.Tests.{eqb-true, eq-eqb, ne-eqb, ltb-true, lt-ltb, le-ltb, ltb-false}
+use Rattle.lists.specs.Lists.{bit, range, all, keep, count, total}
+use Rattle.lists.proofs.Tests.{clash, iff, and-l, and-r, and-both}
+
+module _ {A : Type 0} where
+  pub count-append : (p : A → Bool) (xs ys : List A) → count p (xs ++ ys) ≡ count p xs + count p ys
+  unfolding count
+  count-append p [] ys = sym (zero-add (count p ys))
+  count-append p (x ∷ xs) ys =
+      ap (λ (n : ℕ). bit (p x) + n) (count-append p xs ys) ∙ sym (add-assoc (bit (p x)) (count p xs) (count p ys))
+
+  -- Tests that agree on each element that passes s count the same in a list of such elements.
+  pub count-under : (s p r : A → Bool) (xs : List A) → all s xs ≡ true → ((x : A) → s x ≡ true → p x ≡ r x) → count p xs ≡ count r xs
+  unfolding all count
+  count-under s p r [] e h = refl
+  count-under s p r (x ∷ xs) e h =
+      ap₂ (λ (b : Bool) (n : ℕ). bit b + n) (h x (and-l (s x) (all s xs) e)) (count-under s p r xs (and-r (s x) (all s xs) e) h)
+
+  pub count-none : (p : A → Bool) (xs : List A) → ((x : A) → p x ≡ false) → count p xs ≡ 0
+  unfolding count
+  count-none p [] h = refl
+  count-none p (x ∷ xs) h = rw (h x) (zero-add (count p xs) ∙ count-none p xs h)
+
+  pub count-keep : (p r : A → Bool) (xs : List A) → count p (keep r xs) ≡ count (λ x. r x && p x) xs
+  unfolding count keep
+  count-keep p r [] = refl
+  count-keep p r (x ∷ xs) = go (r x) (count-keep p r xs)
+    where
+      go : (b : Bool) → count p (keep r xs) ≡ count (λ y. r y && p y) xs
+          → count p (cond b (x ∷ keep r xs) (keep r xs)) ≡ bit (b && p x) + count (λ y. r y && p y) xs
+      go true e = ap (λ (n : ℕ). bit (p x) + n) e
+      go false e = e ∙ sym (zero-add (count (λ y. r y && p y) xs))
+
+  -- A test that does not look at the element counts all or none.
+  pub count-const : (p : A → Bool) (b : Bool) (xs : List A) → count (λ x. p x && b) xs ≡ cond b (count p xs) 0
+  unfolding count
+  count-const p true [] = refl
+  count-const p false [] = refl
+  count-const p true (x ∷ xs) = ap₂ (λ (c : Bool) (n : ℕ). bit c + n) (right (p x)) (count-const p true xs)
+    where
+      right : (c : Bool) → (c && true) ≡ c
+      right true = refl
+      right false = refl
+  count-const p false (x ∷ xs) = ap₂ (λ (c : Bool) (n : ℕ). bit c + n) (right (p x)) (count-const p false xs)
+    where
+      right : (c : Bool) → (c && false) ≡ false
+      right true = refl
+      right false = refl
+
+  pub count-le : (p : A → Bool) (xs : List A) → count p xs ≤ length xs
+  unfolding count
+  count-le p [] = omega arith
+  count-le p (x ∷ xs) = go (p x) (count-le p xs)
+    where
+      go : (b : Bool) → count p xs ≤ length xs → bit b + count p xs ≤ suc (length xs)
+      go true h = omega arith
+      go false h = omega arith
+
+  pub count-all : (p : A → Bool) (xs : List A) → all p xs ≡ true → count p xs ≡ length xs
+  unfolding all count
+  count-all p [] e = refl
+  count-all p (x ∷ xs) e =
+      rw (and-l (p x) (all p xs) e) (let ih : count p xs ≡ length xs = count-all p xs (and-r (p x) (all p xs) e) in omega arith)
+
+  pub length-keep : (p : A → Bool) (xs : List A) → length (keep p xs) ≡ count p xs
+  unfolding count keep
+  length-keep p [] = refl
+  length-keep p (x ∷ xs) = go (p x) (length-keep p xs)
+    where
+      go : (b : Bool) → length (keep p xs) ≡ count p xs → length (cond b (x ∷ keep p xs) (keep p xs)) ≡ bit b + count p xs
+      go true e = omega arith
+      go false e = omega arith
+
+  -- A list that counts something has an element that passes, as a fact about all of them.
+  pub count-passes : (p r : A → Bool) (xs : List A) → all r xs ≡ true → ((x : A) → r x ≡ true → p x ≡ false) → count p xs ≡ 0
+  count-passes p r xs e h = count-under r p (λ x. false) xs e h ∙ count-none (λ x. false) xs (λ x. refl)
+
+  pub total-append : (f : A → ℕ) (xs ys : List A) → total f (xs ++ ys) ≡ total f xs + total f ys
+  unfolding total
+  total-append f [] ys = sym (zero-add (total f ys))
+  total-append f (x ∷ xs) ys = ap (λ (n : ℕ). f x + n) (total-append f xs ys) ∙ sym (add-assoc (f x) (total f xs) (total f ys))
+
+  pub total-under : (s : A → Bool) (f h : A → ℕ) (xs : List A) → all s xs ≡ true → ((x : A) → s x ≡ true → f x ≡ h x) → total f xs ≡ total h xs
+  unfolding all total
+  total-under s f h [] e k = refl
+  total-under s f h (x ∷ xs) e k =
+      ap₂ (λ (m n : ℕ). m + n) (k x (and-l (s x) (all s xs) e)) (total-under s f h xs (and-r (s x) (all s xs) e) k)
+
+  pub total-zero : (xs : List A) → total (λ x. 0) xs ≡ 0
+  unfolding total
+  total-zero [] = refl
+  total-zero (x ∷ xs) = zero-add (total (λ y. 0) xs) ∙ total-zero xs
+
+  pub total-add : (f h : A → ℕ) (xs : List A) → total (λ x. f x + h x) xs ≡ total f xs + total h xs
+  unfolding total
+  total-add f h [] = refl
+  total-add f h (x ∷ xs) =
+      let ih : total (λ y. f y + h y) xs ≡ total f xs + total h xs = total-add f h xs in omega arith
+
+  -- A count is a sum of bits.
+  pub total-bit : (p : A → Bool) (xs : List A) → total (λ x. bit (p x)) xs ≡ count p xs
+  unfolding count total
+  total-bit p [] = refl
+  total-bit p (x ∷ xs) = ap (λ (n : ℕ). bit (p x) + n) (total-bit p xs)
+
+  pub total-one : (xs : List A) → total (λ x. 1) xs ≡ length xs
+  unfolding total
+  total-one [] = refl
+  total-one (x ∷ xs) = let ih : total (λ y. 1) xs ≡ length xs = total-one xs in omega arith
+
+module _ {A B : Type 0} where
+  pub count-map : (p : B → Bool) (f : A → B) (xs : List A) → count p (map f xs) ≡ count (λ x. p (f x)) xs
+  unfolding count
+  count-map p f [] = refl
+  count-map p f (x ∷ xs) = ap (λ (n : ℕ). bit (p (f x)) + n) (count-map p f xs)
+
+  pub all-map : (p : B → Bool) (f : A → B) (xs : List A) → all p (map f xs) ≡ all (λ x. p (f x)) xs
+  unfolding all
+  all-map p f [] = refl
+  all-map p f (x ∷ xs) = ap (λ (b : Bool). p (f x) && b) (all-map p f xs)
+
+  pub count-flatMap : (p : B → Bool) (f : A → List B) (xs : List A) → count p (flatMap f xs) ≡ total (λ x. count p (f x)) xs
+  unfolding count total flatMap
+  count-flatMap p f [] = refl
+  count-flatMap p f (x ∷ xs) = count-append p (f x) (flatMap f xs) ∙ ap (λ (n : ℕ). count p (f x) + n) (count-flatMap p f xs)
+
+  pub length-flatMap : (f : A → List B) (xs : List A) → length (flatMap f xs) ≡ total (λ x. length (f x)) xs
+  unfolding total flatMap
+  length-flatMap f [] = refl
+  length-flatMap f (x ∷ xs) = lib.ListN.length-append (f x) (flatMap f xs) ∙ ap (λ (n : ℕ). length (f x) + n) (length-flatMap f xs)
+
+  -- Pairs counted by rows or by columns.
+  pub total-swap : (p : A → B → Bool) (xs : List A) (ys : List B) → total (λ x. count (p x) ys) xs ≡ total (λ y. count (λ x. p x y) xs) ys
+  unfolding count total
+  total-swap p [] ys = sym (total-zero ys)
+  total-swap p (x ∷ xs) ys =
+      ap (λ (n : ℕ). count (p x) ys + n) (total-swap p xs ys)
+      ∙ ap (λ (n : ℕ). n + total (λ y. count (λ z. p z y) xs) ys) (sym (total-bit (p x) ys))
+      ∙ sym (total-add (λ y. bit (p x y)) (λ y. count (λ z. p z y) xs) ys)
+
+-- Of the numbers below n only k passes an equality with k.
+pub count-range-one : (t : ℕ → Bool) (k n : ℕ) → count (λ y. eqb y k && t y) (range n) ≡ bit (ltb k n && t k)
+unfolding count range
+count-range-one t k zero = rw (le-ltb k 0 (omega arith)) refl
+count-range-one t k (suc n) =
+    count-append (λ y. eqb y k && t y) (range n) (n ∷ [])
+    ∙ ap (λ (m : ℕ). m + (bit (eqb n k && t n) + 0)) (count-range-one t k n)
+    ∙ go (eqb n k) refl
+  where
+    go : (b : Bool) → eqb n k ≡ b → bit (ltb k n && t k) + (bit (b && t n) + 0) ≡ bit (ltb k (suc n) && t k)
+    go true e =
+        let i : n ≡ k = eqb-true n k e in
+        rw (le-ltb k n (omega arith), lt-ltb k (suc n) (omega arith), i) (zero-add (bit (t k) + 0) ∙ add-zero (bit (t k)))
+    go false e =
+        ap (λ (m : ℕ). bit (ltb k n && t k) + m) (zero-add 0) ∙ add-zero (bit (ltb k n && t k))
+        ∙ ap (λ (b : Bool). bit (b && t k)) (iff (ltb k n) (ltb k (suc n))
+        (λ h. let l : k < n = ltb-true k n h in lt-ltb k (suc n) (omega arith))
+        (λ h. let l : k < suc n = ltb-true k (suc n) h in lt-ltb k n (let d : (n ≡ k → ⊥) = borrow.Author.Tests.eqb-false n k e in omega (arith, d))))

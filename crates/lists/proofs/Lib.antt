@@ -1,0 +1,6 @@
+-- Laws of the words in specs/.
+pub mod Tests
+pub mod All
+pub mod Count
+pub mod Same
+pub mod Faults
