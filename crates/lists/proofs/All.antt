@@ -2,16 +2,18 @@
 use mathlib.Core.Path.{_≡_, refl, sym, _∙_, ap, ap₂, subst}
 use mathlib.Core.Logic.{_⊎_, inl, inr}
 use mathlib.Core.Bool.{Bool, true, false, cond, _&&_, _||_, and-assoc, and-true}
-use mathlib.Core.List.{List, [], _∷_, _++_, map, append-nil}
+use mathlib.Core.List.{List, [], _∷_, _++_, map, append-nil, List·Memᴰ, List·Memᴰ·head, List·Memᴰ·tail}
 use Prim.Native.Nat.{ℕ, zero, suc, _+_, _≤_, _<_}
 use native.Mathlib.Nat.{eq-or-lt-of-le, le-of-suc-le-suc, not-suc-le-zero, lt-suc-self, le-suc, lt-of-lt-of-le}
 use native.Mathlib.Omega.{arith}
 use native.Mathlib.Numerals.{add-one}
+use lib.Dec.{eqb}
+use borrow.Author.Tests.{eqb-true}
 use lib.ListN.{length, getD, length-append}
 use lib.Seq.{getD-append-seam}
 use lib.ListN.{List·getD-append}
 use Rattle.lists.specs.Lists.{_⇒_, range, all, any, keep}
-use Rattle.lists.proofs.Tests.{clash, iff, and-l, and-r, and-both}
+use Rattle.lists.proofs.Tests.{clash, iff, and-l, and-r, and-both, or-intro-l, or-intro-r, imp-use, imp-intro, eqb-refl}
 
 module _ {A : Type 0} where
   pub all-append : (p : A → Bool) (xs ys : List A) → all p (xs ++ ys) ≡ (all p xs && all p ys)
@@ -32,6 +34,27 @@ module _ {A : Type 0} where
   all-under s p r [] e h = refl
   all-under s p r (x ∷ xs) e h =
       ap₂ (λ (a b : Bool). a && b) (h x (and-l (s x) (all s xs) e)) (all-under s p r xs (and-r (s x) (all s xs) e) h)
+
+  -- The same for a fact about each element of the list.
+  pub all-mem : (p : A → Bool) (xs : List A) → ((x : A) → List·Memᴰ x xs → p x ≡ true) → all p xs ≡ true
+  unfolding all
+  all-mem p [] h = refl
+  all-mem p (x ∷ xs) h = and-both (p x) (all p xs) (h x (List·Memᴰ·head refl)) (all-mem p xs (λ y m. h y (List·Memᴰ·tail m)))
+
+  pub mem-all : (p : A → Bool) {x : A} {xs : List A} → List·Memᴰ x xs → all p xs ≡ true → p x ≡ true
+  unfolding all
+  mem-all p {xs = y ∷ ys} (List·Memᴰ·head e) h = ap p e ∙ and-l (p y) (all p ys) h
+  mem-all p {xs = y ∷ ys} (List·Memᴰ·tail m) h = mem-all p m (and-r (p y) (all p ys) h)
+
+  pub mem-any : (p : A → Bool) {x : A} {xs : List A} → List·Memᴰ x xs → p x ≡ true → any p xs ≡ true
+  unfolding any
+  mem-any p {xs = y ∷ ys} (List·Memᴰ·head e) h = or-intro-l (p y) (any p ys) (sym (ap p e) ∙ h)
+  mem-any p {xs = y ∷ ys} (List·Memᴰ·tail m) h = or-intro-r (p y) (any p ys) (mem-any p m h)
+
+  pub all-mem-ext : (p r : A → Bool) (xs : List A) → ((x : A) → List·Memᴰ x xs → p x ≡ r x) → all p xs ≡ all r xs
+  all-mem-ext p r xs h =
+      iff (all p xs) (all r xs)
+      (λ e. all-mem r xs (λ x m. sym (h x m) ∙ mem-all p m e)) (λ e. all-mem p xs (λ x m. h x m ∙ mem-all r m e))
 
   pub all-and : (p r : A → Bool) (xs : List A) → all (λ x. p x && r x) xs ≡ (all p xs && all r xs)
   unfolding all
@@ -63,6 +86,16 @@ module _ {A : Type 0} where
       go : (b : Bool) → keep p (xs ++ ys) ≡ keep p xs ++ keep p ys
           → cond b (x ∷ keep p (xs ++ ys)) (keep p (xs ++ ys)) ≡ cond b (x ∷ keep p xs) (keep p xs) ++ keep p ys
       go true e = ap (λ (l : List A). x ∷ l) e
+      go false e = e
+
+  pub keep-keep : (p r : A → Bool) (xs : List A) → keep p (keep r xs) ≡ keep (λ x. r x && p x) xs
+  unfolding keep
+  keep-keep p r [] = refl
+  keep-keep p r (x ∷ xs) = go (r x) (keep-keep p r xs)
+    where
+      go : (b : Bool) → keep p (keep r xs) ≡ keep (λ y. r y && p y) xs
+          → keep p (cond b (x ∷ keep r xs) (keep r xs)) ≡ cond (b && p x) (x ∷ keep (λ y. r y && p y) xs) (keep (λ y. r y && p y) xs)
+      go true e = ap (λ (l : List A). cond (p x) (x ∷ l) l) e
       go false e = e
 
   -- Tests that agree on each element that passes s keep the same of a list of such elements.
@@ -115,6 +148,13 @@ all-at p (suc n) e k h = go (λ (r : all p (range n) ≡ true). all-at p n r k) 
     go : (all p (range n) ≡ true → k < n → p k ≡ true) → (k ≡ n) ⊎ (k < n) → p k ≡ true
     go f (inl i) = rw i (and-l (p n) true (and-r (all p (range n)) (p n && true) both))
     go f (inr l) = f (and-l (all p (range n)) (p n && true) both) l
+
+-- Of the numbers below n only k passes an equality with k.
+pub all-range-one : (t : ℕ → Bool) (k n : ℕ) → k < n → all (λ (w : ℕ). eqb w k ⇒ t w) (range n) ≡ t k
+all-range-one t k n h =
+    iff (all (λ (w : ℕ). eqb w k ⇒ t w) (range n)) (t k)
+    (λ e. imp-use (eqb k k) (t k) (all-at (λ (w : ℕ). eqb w k ⇒ t w) n e k h) (eqb-refl k))
+    (λ e. all-range (λ (w : ℕ). eqb w k ⇒ t w) n (λ w l. imp-intro (eqb w k) (t w) (λ i. ap t (eqb-true w k i) ∙ e)))
 
 -- Tests that agree below n agree on the numbers below n.
 pub all-range-ext : (p r : ℕ → Bool) (n : ℕ) → ((k : ℕ) → k < n → p k ≡ r k) → all p (range n) ≡ all r (range n)

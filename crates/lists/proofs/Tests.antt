@@ -35,6 +35,14 @@ pub and-both : (a b : Bool) → a ≡ true → b ≡ true → (a && b) ≡ true
 and-both true b p q = q
 and-both false b p q = p
 
+pub and-turn : (a b c : Bool) → (a && (b && c)) ≡ (c && (a && b))
+and-turn true true true = refl
+and-turn true true false = refl
+and-turn true false true = refl
+and-turn true false false = refl
+and-turn false b true = refl
+and-turn false b false = refl
+
 pub imp-use : (a b : Bool) → (a ⇒ b) ≡ true → a ≡ true → b ≡ true
 imp-use true b e p = e
 imp-use false b e p = clash p refl
@@ -66,6 +74,13 @@ not-true false e = refl
 pub not-false : (a : Bool) → not a ≡ false → a ≡ true
 not-false true e = refl
 not-false false e = clash refl e
+
+pub imp-or : (a b h : Bool) → (a || b ⇒ h) ≡ ((a ⇒ h) && (b ⇒ h))
+imp-or true true true = refl
+imp-or true true false = refl
+imp-or true false true = refl
+imp-or true false false = refl
+imp-or false b h = refl
 
 pub bit-and : (a b : Bool) → bit (a && b) ≡ cond b (bit a) 0
 bit-and true true = refl

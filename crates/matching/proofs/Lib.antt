@@ -1,0 +1,3 @@
+-- Laws of rows and of matches.
+pub mod Rows
+pub mod Cuts
