@@ -1,0 +1,3 @@
+-- The whole run of an accepted plan lists every match once.
+pub mod Whole
+pub mod Accepted
