@@ -1,0 +1,5 @@
+-- Laws of the graph: its file, its store, and which stores accepted files load to.
+pub mod Cut
+pub mod WellFormed
+pub mod Keys
+pub mod Parts
