@@ -1,18 +1,19 @@
 -- An ascending list cut at thresholds: how many elements are below one is where the others begin. Assumes nothing.
 use mathlib.Core.Path.{_≡_, refl, sym, _∙_, ap, ap₂, fun-ext}
 use mathlib.Core.Bool.{Bool, true, false, cond, not, _&&_}
-use mathlib.Core.List.{List, [], _∷_, _++_, map, append-assoc}
+use mathlib.Core.List.{List, [], _∷_, _++_, map, flatMap, append-assoc}
 use Prim.Native.Nat.{ℕ, zero, suc, _+_, _-_, _≤_, _<_}
 use native.Mathlib.Omega.{arith}
 use lib.Dec.{ltb}
 use lib.ListN.{length, take, drop, length-append}
 use lib.Seq.{take-at, drop-at}
 use borrow.Author.Tests.{ltb-true, lt-ltb, le-ltb, ltb-false}
-use Rattle.lists.specs.Lists.{all, keep, count, ascending, ascendsFrom}
+use Rattle.lists.specs.Lists.{range, all, keep, count, ascending}
 use Rattle.lists.proofs.Tests.{iff, and-l, and-r, and-both}
 use Rattle.lists.proofs.All.{keep-under, keep-append}
-use Rattle.lists.proofs.Count.{all-map, count-append, count-keep, length-keep}
+use Rattle.lists.proofs.Count.{all-map, length-keep}
 use Rattle.lists.proofs.Sort.{ascends-above, ascends-tail}
+use Rattle.graph.proofs.Maps.{flatMap-suc}
 
 module _ {A : Type 0} where
   pub keep-keep : (p r : A → Bool) (xs : List A) → keep p (keep r xs) ≡ keep (λ x. r x && p x) xs
@@ -30,7 +31,13 @@ module _ {A : Type 0} where
   keep-none [] = refl
   keep-none (x ∷ xs) = keep-none xs
 
-  -- Elements above a threshold: none is kept by a test that those fail.
+  pub keep-every : (p : A → Bool) (xs : List A) → all p xs ≡ true → keep p xs ≡ xs
+  unfolding keep all
+  keep-every p [] e = refl
+  keep-every p (x ∷ xs) e =
+      rw (and-l (p x) (all p xs) e) (ap (λ (l : List A). x ∷ l) (keep-every p xs (and-r (p x) (all p xs) e)))
+
+  -- A test that all fail keeps nothing.
   pub keep-empty : (s p : A → Bool) (xs : List A) → all s xs ≡ true → ((x : A) → s x ≡ true → p x ≡ false) → keep p xs ≡ []
   keep-empty s p xs e h = keep-under s p (λ x. false) xs e h ∙ keep-none xs
 
@@ -105,3 +112,16 @@ module _ {A : Type 0} (f : A → ℕ) where
           sym (length-keep under xs) ∙ ap length (keep-below xs t u e h) ∙ length-append (keep low xs) mid
           ∙ ap (λ (n : ℕ). n + length mid) (length-keep low xs) in
           omega arith
+
+  -- The parts between thresholds that rise from 0 make up the list.
+  pub cut-parts : (xs : List A) → ascending (map f xs) ≡ true → (t : ℕ → ℕ) → t 0 ≡ 0 → ((v : ℕ) → t v ≤ t (suc v))
+      → (part : ℕ → List A) (n : ℕ) → ((v : ℕ) → v < n → part v ≡ keep (λ x. not (ltb (f x) (t v)) && ltb (f x) (t (suc v))) xs)
+      → flatMap part (range n) ≡ keep (λ x. ltb (f x) (t n)) xs
+  unfolding range flatMap
+  cut-parts xs e t z rise part zero h = rw z (sym (none xs))
+    where
+      none : (ys : List A) → keep (λ x. ltb (f x) 0) ys ≡ []
+      none ys = ap (λ (p : A → Bool). keep p ys) (fun-ext (λ x. le-ltb (f x) 0 (omega arith))) ∙ keep-none ys
+  cut-parts xs e t z rise part (suc n) h =
+      flatMap-suc part n ∙ ap₂ (λ (l m : List A). l ++ m) (cut-parts xs e t z rise part n (λ v l. h v (omega arith))) (h n (omega arith))
+      ∙ sym (keep-below xs (t n) (t (suc n)) e (rise n))

@@ -1,14 +1,13 @@
 -- Keys and entries of edges: what they tell, and that the sorted keys of a well-formed graph ascend. Assumes nothing.
 use mathlib.Core.Path.{_≡_, refl, sym, _∙_, ap}
-use mathlib.Core.Bool.{Bool, true, false, not, _&&_}
+use mathlib.Core.Bool.{Bool, true, false}
 use mathlib.Core.List.{List, [], _∷_, map}
-use Prim.Native.Nat.{ℕ, zero, suc, _+_, _*_, _/_, _%_, _≤_, _<_}
+use Prim.Native.Nat.{ℕ, _+_, _*_, _/_, _%_, _≤_, _<_}
 use native.Mathlib.Omega.{arith}
 use lib.Dec.{eqb, ltb}
-use lib.ListN.{length}
-use borrow.Author.Tests.{eqb-true, eq-eqb, ltb-true, lt-ltb, le-ltb, ltb-false}
+use borrow.Author.Tests.{eqb-true, eq-eqb, ltb-true, lt-ltb}
 use Rattle.lists.specs.Lists.{bit, all, count, ascending, sort}
-use Rattle.lists.proofs.Tests.{iff, and-l, and-r, and-both, not-true}
+use Rattle.lists.proofs.Tests.{iff, and-l, and-r}
 use Rattle.lists.proofs.Count.{count-map, count-under}
 use Rattle.lists.proofs.Sort.{ascending-once, sort-ascends, count-sort}
 use Rattle.graph.specs.Graph.{Edge, Graph, Direction, forward, backward, near, far, entry, key}

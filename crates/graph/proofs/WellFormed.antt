@@ -1,14 +1,14 @@
 -- What a well-formed graph is, as facts: the parts of the test `wellFormed`, and of an edge. Assumes nothing.
-use mathlib.Core.Path.{_≡_, refl, sym, _∙_, ap}
+use mathlib.Core.Path.{_≡_, refl}
 use mathlib.Core.Bool.{Bool, true, false, not, _&&_, _||_}
-use mathlib.Core.List.{List, [], _∷_, map}
-use Prim.Native.Nat.{ℕ, zero, suc, _+_, _*_, _≤_, _<_}
+use mathlib.Core.List.{map}
+use Prim.Native.Nat.{ℕ, _<_}
 use native.Mathlib.Omega.{arith}
 use lib.Dec.{eqb, ltb}
 use lib.ListN.{length}
 use borrow.Author.Tests.{eqb-true, eq-eqb, eqb-false, ne-eqb, ltb-true, lt-ltb}
 use Rattle.lists.specs.Lists.{all, ascending}
-use Rattle.lists.proofs.Tests.{and-l, and-r, and-both, clash}
+use Rattle.lists.proofs.Tests.{and-l, and-r, clash}
 use Rattle.graph.specs.Graph.{Edge, Graph, forward, key}
 use Rattle.graph.specs.File.{badEdge}
 use Rattle.graph.specs.Store.{wellFormed}
