@@ -6,3 +6,4 @@ pub mod Keys
 pub mod Parts
 pub mod VertexLists
 pub mod StoreGraph
+pub mod FileGraph

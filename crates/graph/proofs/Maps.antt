@@ -4,10 +4,12 @@ use mathlib.Core.Bool.{Bool, true, false, cond}
 use mathlib.Core.List.{List, [], _∷_, _++_, map, flatMap, append-assoc, append-nil}
 use Prim.Native.Nat.{ℕ, zero, suc, _<_}
 use native.Mathlib.Nat.{le-of-suc-le-suc, not-suc-le-zero}
-use lib.ListN.{length, getD, take, drop}
-use Rattle.lists.specs.Lists.{range, all, keep}
+use native.Mathlib.Omega.{arith}
+use lib.ListN.{length, getD, take, drop, length-map}
+use Rattle.lists.specs.Lists.{range, all, keep, ascending}
 use Rattle.lists.proofs.Tests.{and-l, and-r}
 use Rattle.lists.proofs.All.{length-range, getD-range}
+use Rattle.lists.proofs.Sort.{at-ascending}
 
 module _ {A B : Type 0} where
   pub take-map : (f : A → B) (n : ℕ) (xs : List A) → take n (map f xs) ≡ map f (take n xs)
@@ -58,3 +60,11 @@ module _ {B : Type 0} where
   pub flatMap-suc : (f : ℕ → List B) (n : ℕ) → flatMap f (range (suc n)) ≡ flatMap f (range n) ++ f n
   unfolding range flatMap
   flatMap-suc f n = flatMap-append f (range n) (n ∷ []) ∙ ap (λ (l : List B). flatMap f (range n) ++ l) (append-nil (f n))
+
+-- The image of the numbers below n ascends where the function rises at each step.
+pub ascending-image : (f : ℕ → ℕ) (n : ℕ) → ((i : ℕ) → suc i < n → f i < f (suc i)) → ascending (map f (range n)) ≡ true
+ascending-image f n h =
+    at-ascending (map f (range n))
+    (λ i l.
+    let m : suc i < n = rw (length-map, length-range) at l in
+    rw (getD-image f n i 0 (omega arith), getD-image f n (suc i) 0 m) (h i m))
