@@ -4,3 +4,4 @@ pub mod All
 pub mod Count
 pub mod Same
 pub mod Faults
+pub mod Sort
