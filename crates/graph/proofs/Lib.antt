@@ -7,3 +7,4 @@ pub mod Parts
 pub mod VertexLists
 pub mod StoreGraph
 pub mod FileGraph
+pub mod EncodeGraph
