@@ -8,3 +8,4 @@ pub mod VertexLists
 pub mod StoreGraph
 pub mod FileGraph
 pub mod EncodeGraph
+pub mod Loads
