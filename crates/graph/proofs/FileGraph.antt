@@ -1,16 +1,16 @@
 -- The graph file that is not refused, as facts, and that it holds a well-formed graph. Assumes nothing.
-use mathlib.Core.Path.{_≡_, _∙_, ap}
+use mathlib.Core.Path.{_≡_, refl, sym, _∙_, ap}
 use mathlib.Core.Bool.{true, false, not}
-use mathlib.Core.List.{List, map-map}
-use Prim.Native.Nat.{ℕ, suc, _+_, _*_, _≤_, _<_}
+use mathlib.Core.List.{List, map, map-map}
+use Prim.Native.Nat.{ℕ, zero, suc, _+_, _*_, _≤_, _<_}
 use native.Mathlib.Omega.{arith}
 use lib.Dec.{ltb}
 use lib.ListN.{length, length-map}
 use borrow.Author.Tests.{ltb-true, lt-ltb, le-ltb, ltb-false}
-use Rattle.lists.specs.Lists.{range, ascending}
+use Rattle.lists.specs.Lists.{range, all, ascending}
 use Rattle.lists.specs.Refusal.{first}
-use Rattle.lists.proofs.Tests.{and-both, not-false}
-use Rattle.lists.proofs.All.{length-range, all-range}
+use Rattle.lists.proofs.Tests.{and-l, and-both, not-true, not-false}
+use Rattle.lists.proofs.All.{length-range, all-range, all-at}
 use Rattle.lists.proofs.Count.{all-map}
 use Rattle.lists.proofs.Faults.{first-head, first-tail, first-cons, first-each, each-first, refuse-zero, zero-refuse}
 use Rattle.packed.specs.Field.{fieldAt, fillSet}
@@ -18,7 +18,7 @@ use Rattle.packed.proofs.Laws.{field-lt}
 use Rattle.graph.specs.Graph.{forward, key}
 use Rattle.graph.specs.File.{graphOf, graphFault, vertexCount, edgeCount, edgeStart, edgeIn, fileSize, badEdge, ascends, edgeFault}
 use Rattle.graph.specs.Store.{wellFormed}
-use Rattle.graph.proofs.Maps.{ascending-image}
+use Rattle.graph.proofs.Maps.{ascending-image, image-ascending}
 use Rattle.graph.proofs.WellFormed.{WellFormed, fitting, formed-well}
 
 -- A file that Load accepts.
@@ -76,6 +76,27 @@ file-formed s a =
           ap ascending (map-map (key forward) (edgeIn s) (range (edgeCount s)))
           ∙ ascending-image (λ (i : ℕ). key forward (edgeIn s i)) (edgeCount s) (λ i h. ltb-true _ _ (a .edges-rise (suc i) h));
     }
+
+-- A file of its own size, with no fill bit set, that holds a well-formed graph is accepted.
+pub formed-file : (s : List ℕ) → length s ≡ fileSize s → fillSet s (edgeStart s (edgeCount s)) ≡ false → WellFormed (graphOf s) → Accepted s
+unfolding graphOf
+formed-file s size fill w =
+    record {
+      sized = size;
+      filled = fill;
+      edges-good = λ i h. not-true _ (and-l _ _ (all-at _ (edgeCount s) fits i h));
+      edges-rise = rise;
+    }
+  where
+    fits : all (λ (i : ℕ). fitting (vertexCount s) (edgeIn s i)) (range (edgeCount s)) ≡ true
+    fits = sym (all-map (fitting (vertexCount s)) (edgeIn s) (range (edgeCount s))) ∙ w .edges-fit
+
+    rise : (i : ℕ) → i < edgeCount s → ascends s i ≡ true
+    rise zero h = refl
+    rise (suc i) h = lt-ltb _ _ (image-ascending (λ (j : ℕ). key forward (edgeIn s j)) (edgeCount s) up i h)
+      where
+        up : ascending (map (λ (j : ℕ). key forward (edgeIn s j)) (range (edgeCount s))) ≡ true
+        up = ap ascending (sym (map-map (key forward) (edgeIn s) (range (edgeCount s)))) ∙ w .edges-ascend
 
 -- The graph of an accepted file is well-formed.
 pub file-well-formed : (s : List ℕ) → graphFault s ≡ 0 → wellFormed (graphOf s) ≡ true

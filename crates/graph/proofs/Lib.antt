@@ -7,3 +7,5 @@ pub mod Parts
 pub mod VertexLists
 pub mod StoreGraph
 pub mod FileGraph
+pub mod EncodeGraph
+pub mod Loads

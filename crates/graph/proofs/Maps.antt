@@ -6,10 +6,19 @@ use Prim.Native.Nat.{ℕ, zero, suc, _<_}
 use native.Mathlib.Nat.{le-of-suc-le-suc, not-suc-le-zero}
 use native.Mathlib.Omega.{arith}
 use lib.ListN.{length, getD, take, drop, length-map}
+use lib.Seq.{ext-getD}
 use Rattle.lists.specs.Lists.{range, all, keep, ascending}
 use Rattle.lists.proofs.Tests.{and-l, and-r}
 use Rattle.lists.proofs.All.{length-range, getD-range}
-use Rattle.lists.proofs.Sort.{at-ascending}
+use Rattle.lists.proofs.Sort.{at-ascending, ascending-at}
+use Rattle.packed.proofs.Encoded.{getD-image}
+
+-- An element of a list passes the test that all pass.
+pub all-getD : {A : Type 0} (p : A → Bool) (xs : List A) (i : ℕ) (d : A) → all p xs ≡ true → i < length xs → p (getD xs i d) ≡ true
+unfolding all
+all-getD p [] i d e h = absurd (not-suc-le-zero h)
+all-getD p (x ∷ xs) zero d e h = and-l (p x) (all p xs) e
+all-getD p (x ∷ xs) (suc i) d e h = all-getD p xs i d (and-r (p x) (all p xs) e) (le-of-suc-le-suc h)
 
 module _ {A B : Type 0} where
   pub take-map : (f : A → B) (n : ℕ) (xs : List A) → take n (map f xs) ≡ map f (take n xs)
@@ -41,11 +50,6 @@ module _ {A B : Type 0} where
   map-under s f h (x ∷ xs) e k =
       ap₂ (λ (y : B) (l : List B). y ∷ l) (k x (and-l (s x) (all s xs) e)) (map-under s f h xs (and-r (s x) (all s xs) e) k)
 
-  pub getD-map : (f : A → B) (xs : List A) (i : ℕ) (a : A) (b : B) → i < length xs → getD (map f xs) i b ≡ f (getD xs i a)
-  getD-map f [] i a b h = absurd (not-suc-le-zero h)
-  getD-map f (x ∷ xs) zero a b h = refl
-  getD-map f (x ∷ xs) (suc i) a b h = getD-map f xs i a b (le-of-suc-le-suc h)
-
   pub flatMap-append : (f : A → List B) (xs ys : List A) → flatMap f (xs ++ ys) ≡ flatMap f xs ++ flatMap f ys
   unfolding flatMap
   flatMap-append f [] ys = refl
@@ -53,9 +57,16 @@ module _ {A B : Type 0} where
       ap (λ (l : List B). f x ++ l) (flatMap-append f xs ys) ∙ sym (append-assoc (f x) (flatMap f xs) (flatMap f ys))
 
 module _ {B : Type 0} where
-  -- The image of the number at i.
-  pub getD-image : (f : ℕ → B) (n i : ℕ) (b : B) → i < n → getD (map f (range n)) i b ≡ f i
-  getD-image f n i b h = getD-map f (range n) i 0 b (rw length-range h) ∙ ap f (getD-range n i h)
+  pub getD-map-range : (f : ℕ → B) (n i : ℕ) (b : B) → i < n → getD (map f (range n)) i b ≡ f i
+  getD-map-range f n i b h = getD-image f (range n) i 0 b (rw length-range h) ∙ ap f (getD-range n i h)
+
+  -- A list is the image of its indices.
+  pub map-indices : (f : ℕ → B) (xs : List B) (b : B) → ((i : ℕ) → i < length xs → f i ≡ getD xs i b) → map f (range (length xs)) ≡ xs
+  map-indices f xs b h =
+      ext-getD b (map f (range (length xs))) xs (length-map (range (length xs)) f ∙ length-range (length xs))
+      (λ i l.
+      let m : i < length xs = rw (length-map, length-range) at l in
+      getD-map-range f (length xs) i b m ∙ h i m)
 
   pub flatMap-suc : (f : ℕ → List B) (n : ℕ) → flatMap f (range (suc n)) ≡ flatMap f (range n) ++ f n
   unfolding range flatMap
@@ -67,4 +78,9 @@ ascending-image f n h =
     at-ascending (map f (range n))
     (λ i l.
     let m : suc i < n = rw (length-map, length-range) at l in
-    rw (getD-image f n i 0 (omega arith), getD-image f n (suc i) 0 m) (h i m))
+    rw (getD-map-range f n i 0 (omega arith), getD-map-range f n (suc i) 0 m) (h i m))
+
+pub image-ascending : (f : ℕ → ℕ) (n : ℕ) → ascending (map f (range n)) ≡ true → (i : ℕ) → suc i < n → f i < f (suc i)
+image-ascending f n e i h =
+    rw (getD-map-range f n i 0 (omega arith), getD-map-range f n (suc i) 0 h) at
+    (ascending-at (map f (range n)) e i (rw (length-map, length-range) h))
