@@ -8,9 +8,9 @@ use lib.Dec.{ltb}
 use lib.ListN.{length, take, drop, length-append}
 use lib.Seq.{take-at, drop-at}
 use borrow.Author.Tests.{ltb-true, lt-ltb, le-ltb, ltb-false}
-use Rattle.lists.specs.Lists.{range, all, keep, count, ascending}
-use Rattle.lists.proofs.Tests.{iff, and-l, and-r, and-both}
-use Rattle.lists.proofs.All.{keep-under, keep-append}
+use Rattle.lists.specs.Lists.{_⇒_, range, all, keep, count, ascending}
+use Rattle.lists.proofs.Tests.{iff, and-l, and-r, and-both, imp-intro}
+use Rattle.lists.proofs.All.{all-keep, keep-under, keep-append}
 use Rattle.lists.proofs.Count.{all-map, length-keep}
 use Rattle.lists.proofs.Sort.{ascends-above, ascends-tail}
 use Rattle.graph.proofs.Maps.{flatMap-suc}
@@ -25,6 +25,14 @@ module _ {A : Type 0} where
           → keep p (cond b (x ∷ keep r xs) (keep r xs)) ≡ cond (b && p x) (x ∷ keep (λ y. r y && p y) xs) (keep (λ y. r y && p y) xs)
       go true e = ap (λ (l : List A). cond (p x) (x ∷ l) l) e
       go false e = e
+
+  pub all-kept : (p : A → Bool) (xs : List A) → all p (keep p xs) ≡ true
+  unfolding all
+  all-kept p xs = all-keep p p xs ∙ always xs
+    where
+      always : (ys : List A) → all (λ x. p x ⇒ p x) ys ≡ true
+      always [] = refl
+      always (y ∷ ys) = and-both (p y ⇒ p y) _ (imp-intro (p y) (p y) (λ i. i)) (always ys)
 
   pub keep-none : (xs : List A) → keep (λ x. false) xs ≡ []
   unfolding keep
