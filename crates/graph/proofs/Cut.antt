@@ -96,7 +96,8 @@ module _ {A : Type 0} (f : A → ℕ) where
       → take (count (λ x. ltb (f x) u) xs - count (λ x. ltb (f x) t) xs) (drop (count (λ x. ltb (f x) t) xs) xs)
       ≡ keep (λ x. not (ltb (f x) t) && ltb (f x) u) xs
   cut-part xs t u e h =
-      ap (take (count under xs - count low xs)) (ap (drop (count low xs)) whole ∙ drop-at (keep low xs) (mid ++ high) (count low xs) (length-keep low xs))
+      ap (take (count under xs - count low xs))
+      (ap (drop (count low xs)) whole ∙ drop-at (keep low xs) (mid ++ high) (count low xs) (length-keep low xs))
       ∙ take-at mid high (count under xs - count low xs) size
     where
       low : A → Bool

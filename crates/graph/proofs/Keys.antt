@@ -79,7 +79,8 @@ forwardKey : Direction → ℕ → ℕ
 forwardKey forward k = k
 forwardKey backward k = entryIn k % 65536 * 16777216 + (entryIn k / 65536 * 65536 + k / 16777216)
 
-forward-key : (g : Graph) → WellFormed g → (d : Direction) (e : Edge) → fitting (g .vertices) e ≡ true → forwardKey d (key d e) ≡ key forward e
+forward-key : (g : Graph) → WellFormed g → (d : Direction) (e : Edge) → fitting (g .vertices) e ≡ true
+    → forwardKey d (key d e) ≡ key forward e
 unfolding forwardKey
 forward-key g w forward e t = refl
 forward-key g w backward e t =
@@ -138,4 +139,5 @@ pub forward-entries : (g : Graph) → WellFormed g → entries forward g ≡ map
 unfolding entries
 forward-entries g w =
     ap (map entryIn) (forward-keys g w) ∙ map-map entryIn (key forward) (g .edges)
-    ∙ map-under (fitting (g .vertices)) (λ (e : Edge). entryIn (key forward e)) (entry forward) (g .edges) (w .edges-fit) (key-entry g w forward)
+    ∙ map-under (fitting (g .vertices)) (λ (e : Edge). entryIn (key forward e)) (entry forward) (g .edges) (w .edges-fit)
+    (key-entry g w forward)

@@ -25,14 +25,16 @@ use Rattle.graph.proofs.VertexLists.{listAt, vertex-list}
 
 module _ (g : Graph) (w : WellFormed g) where
   -- The entries in the forward list of v tell the edges from v, in the file's order.
-  edges-at : (v : ℕ) → map (edgeOf v) (map entryIn (keep (keyAt v) (sortedKeys forward g))) ≡ keep (λ (e : Edge). keyAt v (key forward e)) (g .edges)
+  edges-at : (v : ℕ) → map (edgeOf v) (map entryIn (keep (keyAt v) (sortedKeys forward g)))
+      ≡ keep (λ (e : Edge). keyAt v (key forward e)) (g .edges)
   edges-at v =
       ap (λ (ks : List ℕ). map (edgeOf v) (map entryIn (keep (keyAt v) ks))) (forward-keys g w)
       ∙ ap (λ (ks : List ℕ). map (edgeOf v) (map entryIn ks)) (keep-map (keyAt v) (key forward) (g .edges))
       ∙ ap (map (edgeOf v)) (map-map entryIn (key forward) (keep at (g .edges)))
       ∙ map-map (edgeOf v) (λ (e : Edge). entryIn (key forward e)) (keep at (g .edges))
       ∙ map-under (λ (e : Edge). fit e && at e) (λ (e : Edge). edgeOf v (entryIn (key forward e))) (λ (e : Edge). e) (keep at (g .edges))
-      (all-keep (λ (e : Edge). fit e && at e) at (g .edges) ∙ all-follows fit (λ (e : Edge). at e ⇒ (fit e && at e)) (g .edges) (w .edges-fit)
+      (all-keep (λ (e : Edge). fit e && at e) at (g .edges)
+      ∙ all-follows fit (λ (e : Edge). at e ⇒ (fit e && at e)) (g .edges) (w .edges-fit)
       (λ e t. imp-intro (at e) (fit e && at e) (and-both (fit e) (at e) t)))
       (λ e t. told e (and-l (fit e) (at e) t) (and-r (fit e) (at e) t))
       ∙ map-id (keep at (g .edges))
@@ -53,7 +55,8 @@ module _ (g : Graph) (w : WellFormed g) where
     unfolding storeOf
     list-in v h =
         let store : List ℕ = storeOf g ++ rest in
-        let place : 3 + 2 * g .vertices + offset forward g v ≡ sideStart forward g + (suc (g .vertices) + offset forward g v) = omega arith in
+        let from : ℕ = offset forward g v in
+        let place : 3 + 2 * g .vertices + from ≡ sideStart forward g + (suc (g .vertices) + from) = omega arith in
         ap₂ (λ (to from : ℕ). take (to - from) (drop (3 + 2 * g .vertices + from) store))
         (store-offset g (w .labelled) rest forward (suc v) h) (store-offset g (w .labelled) rest forward v (omega arith))
         ∙ ap (λ (n : ℕ). take (offset forward g (suc v) - offset forward g v) (drop n store)) place
