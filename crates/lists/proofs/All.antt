@@ -1,17 +1,19 @@
 -- Laws of `all`, `any`, `keep` and `range`. Assumes nothing.
-use mathlib.Core.Path.{_≡_, refl, sym, _∙_, ap, ap₂, subst}
+use mathlib.Core.Path.{_≡_, refl, sym, _∙_, ap, ap₂, fun-ext, subst}
 use mathlib.Core.Logic.{_⊎_, inl, inr}
 use mathlib.Core.Bool.{Bool, true, false, cond, _&&_, _||_, and-assoc, and-true}
-use mathlib.Core.List.{List, [], _∷_, _++_, map, append-nil}
-use Prim.Native.Nat.{ℕ, zero, suc, _+_, _≤_, _<_}
-use native.Mathlib.Nat.{eq-or-lt-of-le, le-of-suc-le-suc, not-suc-le-zero, lt-suc-self, le-suc, lt-of-lt-of-le}
+use mathlib.Core.List.{List, [], _∷_, _++_, map, map-append, List·Memᴰ, List·Memᴰ·head, List·Memᴰ·tail}
+use Prim.Native.Nat.{ℕ, zero, suc, suc-le-suc, _+_, _≤_, _<_}
+use native.Mathlib.Nat.{eq-or-lt-of-le, le-of-suc-le-suc, not-suc-le-zero, zero-lt-suc}
 use native.Mathlib.Omega.{arith}
 use native.Mathlib.Numerals.{add-one}
-use lib.ListN.{length, getD, length-append}
-use lib.Seq.{getD-append-seam}
+use lib.Dec.{eqb}
+use borrow.Author.Tests.{eqb-true}
+use lib.ListN.{length, getD, take, length-append}
+use lib.Seq.{getD-append-seam, take-suc}
 use lib.ListN.{List·getD-append}
 use Rattle.lists.specs.Lists.{_⇒_, range, all, any, keep}
-use Rattle.lists.proofs.Tests.{clash, iff, and-l, and-r, and-both}
+use Rattle.lists.proofs.Tests.{clash, iff, and-l, and-r, and-both, or-intro-l, or-intro-r, imp-use, imp-intro, eqb-refl}
 
 module _ {A : Type 0} where
   pub all-append : (p : A → Bool) (xs ys : List A) → all p (xs ++ ys) ≡ (all p xs && all p ys)
@@ -32,6 +34,38 @@ module _ {A : Type 0} where
   all-under s p r [] e h = refl
   all-under s p r (x ∷ xs) e h =
       ap₂ (λ (a b : Bool). a && b) (h x (and-l (s x) (all s xs) e)) (all-under s p r xs (and-r (s x) (all s xs) e) h)
+
+  -- The same for a fact about each element of the list.
+  pub all-mem : (p : A → Bool) (xs : List A) → ((x : A) → List·Memᴰ x xs → p x ≡ true) → all p xs ≡ true
+  unfolding all
+  all-mem p [] h = refl
+  all-mem p (x ∷ xs) h = and-both (p x) (all p xs) (h x (List·Memᴰ·head refl)) (all-mem p xs (λ y m. h y (List·Memᴰ·tail m)))
+
+  pub mem-all : (p : A → Bool) {x : A} {xs : List A} → List·Memᴰ x xs → all p xs ≡ true → p x ≡ true
+  unfolding all
+  mem-all p {xs = y ∷ ys} (List·Memᴰ·head e) h = ap p e ∙ and-l (p y) (all p ys) h
+  mem-all p {xs = y ∷ ys} (List·Memᴰ·tail m) h = mem-all p m (and-r (p y) (all p ys) h)
+
+  pub mem-any : (p : A → Bool) {x : A} {xs : List A} → List·Memᴰ x xs → p x ≡ true → any p xs ≡ true
+  unfolding any
+  mem-any p {xs = y ∷ ys} (List·Memᴰ·head e) h = or-intro-l (p y) (any p ys) (sym (ap p e) ∙ h)
+  mem-any p {xs = y ∷ ys} (List·Memᴰ·tail m) h = or-intro-r (p y) (any p ys) (mem-any p m h)
+
+  pub all-mem-ext : (p r : A → Bool) (xs : List A) → ((x : A) → List·Memᴰ x xs → p x ≡ r x) → all p xs ≡ all r xs
+  all-mem-ext p r xs h =
+      iff (all p xs) (all r xs)
+      (λ e. all-mem r xs (λ x m. sym (h x m) ∙ mem-all p m e)) (λ e. all-mem p xs (λ x m. h x m ∙ mem-all r m e))
+
+  pub all-getD : (p : A → Bool) (xs : List A) (i : ℕ) (d : A) → i < length xs → all p xs ≡ true → p (getD xs i d) ≡ true
+  unfolding all
+  all-getD p [] i d h e = absurd (not-suc-le-zero h)
+  all-getD p (x ∷ xs) zero d h e = and-l (p x) (all p xs) e
+  all-getD p (x ∷ xs) (suc i) d h e = all-getD p xs i d (le-of-suc-le-suc h) (and-r (p x) (all p xs) e)
+
+  pub getD-all : (p : A → Bool) (xs : List A) (d : A) → ((i : ℕ) → i < length xs → p (getD xs i d) ≡ true) → all p xs ≡ true
+  unfolding all
+  getD-all p [] d h = refl
+  getD-all p (x ∷ xs) d h = and-both (p x) (all p xs) (h 0 (zero-lt-suc (length xs))) (getD-all p xs d (λ i l. h (suc i) (suc-le-suc l)))
 
   pub all-and : (p r : A → Bool) (xs : List A) → all (λ x. p x && r x) xs ≡ (all p xs && all r xs)
   unfolding all
@@ -65,6 +99,25 @@ module _ {A : Type 0} where
       go true e = ap (λ (l : List A). x ∷ l) e
       go false e = e
 
+  pub keep-ext : (p r : A → Bool) (xs : List A) → ((x : A) → p x ≡ r x) → keep p xs ≡ keep r xs
+  keep-ext p r xs h = ap (λ (t : A → Bool). keep t xs) (fun-ext h)
+
+  pub keep-all : (p : A → Bool) (xs : List A) → all p xs ≡ true → keep p xs ≡ xs
+  unfolding all keep
+  keep-all p [] e = refl
+  keep-all p (x ∷ xs) e =
+      ap₂ (λ (b : Bool) (l : List A). cond b (x ∷ l) l) (and-l (p x) (all p xs) e) (keep-all p xs (and-r (p x) (all p xs) e))
+
+  pub keep-keep : (p r : A → Bool) (xs : List A) → keep p (keep r xs) ≡ keep (λ x. r x && p x) xs
+  unfolding keep
+  keep-keep p r [] = refl
+  keep-keep p r (x ∷ xs) = go (r x) (keep-keep p r xs)
+    where
+      go : (b : Bool) → keep p (keep r xs) ≡ keep (λ y. r y && p y) xs
+          → keep p (cond b (x ∷ keep r xs) (keep r xs)) ≡ cond (b && p x) (x ∷ keep (λ y. r y && p y) xs) (keep (λ y. r y && p y) xs)
+      go true e = ap (λ (l : List A). cond (p x) (x ∷ l) l) e
+      go false e = e
+
   -- Tests that agree on each element that passes s keep the same of a list of such elements.
   pub keep-under : (s p r : A → Bool) (xs : List A) → all s xs ≡ true → ((x : A) → s x ≡ true → p x ≡ r x) → keep p xs ≡ keep r xs
   unfolding all keep
@@ -96,6 +149,15 @@ getD-range (suc n) i h = go (getD-range n i) (eq-or-lt-of-le (le-of-suc-le-suc h
         (getD-append-seam (range n) n [] 0 ∙ sym e)
     go f (inr l) = List·getD-append (range n) (n ∷ []) 0 i (rw length-range l) ∙ f l
 
+-- A list by its elements in turn.
+pub map-getD : (a : List ℕ) (n : ℕ) → n ≤ length a → map (λ (i : ℕ). getD a i 0) (range n) ≡ take n a
+unfolding range
+map-getD a zero h = refl
+map-getD a (suc n) h =
+    map-append (λ (i : ℕ). getD a i 0) (range n) (n ∷ [])
+    ∙ ap (λ (l : List ℕ). l ++ (getD a n 0 ∷ [])) (map-getD a n (omega arith))
+    ∙ sym (take-suc a n 0 h)
+
 -- A test passes of the numbers below n exactly where it passes of each.
 pub all-range : (p : ℕ → Bool) (n : ℕ) → ((k : ℕ) → k < n → p k ≡ true) → all p (range n) ≡ true
 unfolding all range
@@ -115,6 +177,13 @@ all-at p (suc n) e k h = go (λ (r : all p (range n) ≡ true). all-at p n r k) 
     go : (all p (range n) ≡ true → k < n → p k ≡ true) → (k ≡ n) ⊎ (k < n) → p k ≡ true
     go f (inl i) = rw i (and-l (p n) true (and-r (all p (range n)) (p n && true) both))
     go f (inr l) = f (and-l (all p (range n)) (p n && true) both) l
+
+-- Of the numbers below n only k passes an equality with k.
+pub all-range-one : (t : ℕ → Bool) (k n : ℕ) → k < n → all (λ (w : ℕ). eqb w k ⇒ t w) (range n) ≡ t k
+all-range-one t k n h =
+    iff (all (λ (w : ℕ). eqb w k ⇒ t w) (range n)) (t k)
+    (λ e. imp-use (eqb k k) (t k) (all-at (λ (w : ℕ). eqb w k ⇒ t w) n e k h) (eqb-refl k))
+    (λ e. all-range (λ (w : ℕ). eqb w k ⇒ t w) n (λ w l. imp-intro (eqb w k) (t w) (λ i. ap t (eqb-true w k i) ∙ e)))
 
 -- Tests that agree below n agree on the numbers below n.
 pub all-range-ext : (p r : ℕ → Bool) (n : ℕ) → ((k : ℕ) → k < n → p k ≡ r k) → all p (range n) ≡ all r (range n)

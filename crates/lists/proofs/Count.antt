@@ -1,7 +1,7 @@
 -- Laws of `count` and `total`. Assumes nothing.
-use mathlib.Core.Path.{_≡_, refl, sym, _∙_, ap, ap₂}
-use mathlib.Core.Bool.{Bool, true, false, cond, _&&_}
-use mathlib.Core.List.{List, [], _∷_, _++_, map, flatMap}
+use mathlib.Core.Path.{_≡_, refl, sym, _∙_, ap, ap₂, fun-ext}
+use mathlib.Core.Bool.{Bool, true, false, cond, _&&_, and-true, and-false}
+use mathlib.Core.List.{List, [], _∷_, _++_, map, flatMap, List·Memᴰ, List·Memᴰ·head, List·Memᴰ·tail}
 use Prim.Native.Nat.{ℕ, zero, suc, _+_, _≤_, _<_}
 use native.Mathlib.Nat.{zero-add, add-zero, add-assoc, add-left-comm, add-comm}
 use native.Mathlib.Numerals.{add-one}
@@ -10,7 +10,8 @@ use lib.Dec.{eqb, ltb}
 use lib.ListN.{length}
 use borrow.Author.Tests.{eqb-true, eq-eqb, ne-eqb, ltb-true, lt-ltb, le-ltb, ltb-false}
 use Rattle.lists.specs.Lists.{bit, range, all, keep, count, total}
-use Rattle.lists.proofs.Tests.{clash, iff, and-l, and-r, and-both}
+use Rattle.lists.proofs.All.{all-append}
+use Rattle.lists.proofs.Tests.{clash, iff, and-l, and-r, and-both, and-turn, eqb-sym}
 
 module _ {A : Type 0} where
   pub count-append : (p : A → Bool) (xs ys : List A) → count p (xs ++ ys) ≡ count p xs + count p ys
@@ -46,16 +47,13 @@ module _ {A : Type 0} where
   unfolding count
   count-const p true [] = refl
   count-const p false [] = refl
-  count-const p true (x ∷ xs) = ap₂ (λ (c : Bool) (n : ℕ). bit c + n) (right (p x)) (count-const p true xs)
-    where
-      right : (c : Bool) → (c && true) ≡ c
-      right true = refl
-      right false = refl
-  count-const p false (x ∷ xs) = ap₂ (λ (c : Bool) (n : ℕ). bit c + n) (right (p x)) (count-const p false xs)
-    where
-      right : (c : Bool) → (c && false) ≡ false
-      right true = refl
-      right false = refl
+  count-const p true (x ∷ xs) = ap₂ (λ (c : Bool) (n : ℕ). bit c + n) (and-true (p x)) (count-const p true xs)
+  count-const p false (x ∷ xs) = ap₂ (λ (c : Bool) (n : ℕ). bit c + n) (and-false (p x)) (count-const p false xs)
+
+  pub mem-count : (p : A → Bool) {x : A} {xs : List A} → List·Memᴰ x xs → p x ≡ true → 0 < count p xs
+  unfolding count
+  mem-count p {xs = y ∷ ys} (List·Memᴰ·head e) h = rw (sym (ap p e) ∙ h) (omega arith)
+  mem-count p {xs = y ∷ ys} (List·Memᴰ·tail m) h = let ih : 0 < count p ys = mem-count p m h in omega arith
 
   pub count-le : (p : A → Bool) (xs : List A) → count p xs ≤ length xs
   unfolding count
@@ -129,6 +127,11 @@ module _ {A B : Type 0} where
   all-map p f [] = refl
   all-map p f (x ∷ xs) = ap (λ (b : Bool). p (f x) && b) (all-map p f xs)
 
+  pub all-flatMap : (p : B → Bool) (f : A → List B) (xs : List A) → all p (flatMap f xs) ≡ all (λ x. all p (f x)) xs
+  unfolding all flatMap
+  all-flatMap p f [] = refl
+  all-flatMap p f (x ∷ xs) = all-append p (f x) (flatMap f xs) ∙ ap (λ (b : Bool). all p (f x) && b) (all-flatMap p f xs)
+
   pub count-flatMap : (p : B → Bool) (f : A → List B) (xs : List A) → count p (flatMap f xs) ≡ total (λ x. count p (f x)) xs
   unfolding count total flatMap
   count-flatMap p f [] = refl
@@ -166,3 +169,12 @@ count-range-one t k (suc n) =
         ∙ ap (λ (b : Bool). bit (b && t k)) (iff (ltb k n) (ltb k (suc n))
         (λ h. let l : k < n = ltb-true k n h in lt-ltb k (suc n) (omega arith))
         (λ h. let l : k < suc n = ltb-true k (suc n) h in lt-ltb k n (let d : (n ≡ k → ⊥) = borrow.Author.Tests.eqb-false n k e in omega (arith, d))))
+
+-- Of the elements that the numbers below n produce only that of k₀ can pass, and only where c holds.
+pub count-produced : {B : Type 0} (p : B → Bool) (make : ℕ → B) (t : ℕ → Bool) (c : Bool) (k₀ n : ℕ)
+    → ((k : ℕ) → p (make k) ≡ (c && eqb k₀ k)) → count p (map make (keep t (range n))) ≡ bit (ltb k₀ n && (t k₀ && c))
+count-produced p make t c k₀ n h =
+    count-map p make (keep t (range n)) ∙ count-keep (λ k. p (make k)) t (range n)
+    ∙ ap (λ (r : ℕ → Bool). count r (range n))
+    (fun-ext (λ (k : ℕ). ap (λ (b : Bool). t k && b) (h k ∙ ap (λ (b : Bool). c && b) (eqb-sym k₀ k)) ∙ and-turn (t k) c (eqb k k₀)))
+    ∙ count-range-one (λ (k : ℕ). t k && c) k₀ n

@@ -35,6 +35,20 @@ pub and-both : (a b : Bool) → a ≡ true → b ≡ true → (a && b) ≡ true
 and-both true b p q = q
 and-both false b p q = p
 
+pub and-turn : (a b c : Bool) → (a && (b && c)) ≡ (c && (a && b))
+and-turn true true true = refl
+and-turn true true false = refl
+and-turn true false true = refl
+and-turn true false false = refl
+and-turn false b true = refl
+and-turn false b false = refl
+
+pub and-left-comm : (a b c : Bool) → (a && (b && c)) ≡ (b && (a && c))
+and-left-comm true true c = refl
+and-left-comm true false c = refl
+and-left-comm false true c = refl
+and-left-comm false false c = refl
+
 pub imp-use : (a b : Bool) → (a ⇒ b) ≡ true → a ≡ true → b ≡ true
 imp-use true b e p = e
 imp-use false b e p = clash p refl
@@ -59,6 +73,14 @@ pub or-false : (a b : Bool) → a ≡ false → b ≡ false → (a || b) ≡ fal
 or-false true b p q = p
 or-false false b p q = q
 
+pub or-false-l : (a b : Bool) → (a || b) ≡ false → a ≡ false
+or-false-l true b e = e
+or-false-l false b e = refl
+
+pub or-false-r : (a b : Bool) → (a || b) ≡ false → b ≡ false
+or-false-r true b e = clash refl e
+or-false-r false b e = e
+
 pub not-true : (a : Bool) → not a ≡ true → a ≡ false
 not-true true e = clash e refl
 not-true false e = refl
@@ -66,6 +88,13 @@ not-true false e = refl
 pub not-false : (a : Bool) → not a ≡ false → a ≡ true
 not-false true e = refl
 not-false false e = clash refl e
+
+pub imp-or : (a b h : Bool) → (a || b ⇒ h) ≡ ((a ⇒ h) && (b ⇒ h))
+imp-or true true true = refl
+imp-or true true false = refl
+imp-or true false true = refl
+imp-or true false false = refl
+imp-or false b h = refl
 
 pub bit-and : (a b : Bool) → bit (a && b) ≡ cond b (bit a) 0
 bit-and true true = refl
