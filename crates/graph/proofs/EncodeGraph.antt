@@ -9,7 +9,7 @@ use lib.Dec.{ltb}
 use lib.ListN.{length, getD, length-append}
 use borrow.Author.Tests.{ltb-true, lt-ltb}
 use Rattle.lists.specs.Lists.{range, all}
-use Rattle.lists.proofs.All.{all-range}
+use Rattle.lists.proofs.All.{all-getD, all-range}
 use Rattle.lists.proofs.Count.{all-map}
 use Rattle.packed.specs.Field.{fieldAt, fillSet, bytesFor}
 use Rattle.packed.specs.Encode.{bitsOf, bytesOf, number, bitIn}
@@ -20,7 +20,7 @@ use Rattle.graph.specs.Graph.{Edge, Graph}
 use Rattle.graph.specs.File.{graphOf, graphFault, vertexCount, edgeCount, edgeStart, edgeIn, fileSize}
 use Rattle.graph.specs.Encode.{edgeBits, graphBits, encode}
 use Rattle.graph.specs.Store.{wellFormed}
-use Rattle.graph.proofs.Maps.{all-getD, map-indices}
+use Rattle.graph.proofs.Maps.{map-indices}
 use Rattle.graph.proofs.WellFormed.{WellFormed, Fitting, fitting, fitting-edge, well-formed}
 use Rattle.graph.proofs.FileGraph.{accepts, formed-file}
 
@@ -89,7 +89,7 @@ module _ (g : Graph) (w : WellFormed g) where
       ap (λ (at : ℕ). fieldAt (encode g) at 16) from
       ∙ field-record (bitsOf 16 (g .vertices) ++ bitsOf 20 (length (g .edges))) (bitsOf 16) (g .labels) (edgesBits g) 36 16
       (simp (length-append, length-bitsOf)) (length-bitsOf 16) 0 v 0 16 h (omega arith)
-      ∙ number-bitsOf 16 (getD (g .labels) v 0) (ltb-true _ 65536 (all-getD (λ (l : ℕ). ltb l 65536) (g .labels) v 0 (w .labels-fit) h))
+      ∙ number-bitsOf 16 (getD (g .labels) v 0) (ltb-true _ 65536 (all-getD (λ (l : ℕ). ltb l 65536) (g .labels) v 0 h (w .labels-fit)))
 
   -- A field of edge i, at bits past its start.
   edge-field : (d : Edge) (i at k : ℕ) → i < length (g .edges) → at + k ≤ 40
@@ -109,7 +109,7 @@ module _ (g : Graph) (w : WellFormed g) where
       e = getD (g .edges) i d
 
       fits : Fitting (g .vertices) e
-      fits = fitting-edge (g .vertices) e (all-getD (fitting (g .vertices)) (g .edges) i d (w .edges-fit) h)
+      fits = fitting-edge (g .vertices) e (all-getD (fitting (g .vertices)) (g .edges) i d h (w .edges-fit))
 
       read : (at k : ℕ) → at + k ≤ 40 → fieldAt (encode g) (edgeStart (encode g) i + at) k ≡ number (bitIn (edgeBits e)) at k
       read at k l =

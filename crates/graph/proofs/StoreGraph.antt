@@ -11,13 +11,13 @@ use borrow.Author.Tests.{eqb-true, lt-ltb}
 use Rattle.lists.specs.Lists.{_⇒_, range, keep, same}
 use Rattle.lists.specs.Refusal.{refuse}
 use Rattle.lists.proofs.Tests.{and-l, and-r, and-both, imp-intro}
-use Rattle.lists.proofs.All.{all-follows, all-keep}
+use Rattle.lists.proofs.All.{all-follows, all-keep, keep-all}
 use Rattle.lists.proofs.Same.{eq-same}
 use Rattle.lists.proofs.Faults.{zero-refuse}
 use Rattle.graph.specs.Graph.{Edge, Graph, forward, key}
 use Rattle.graph.specs.Store.{storeOf, listIn, edgeOf, graphIn, wellFormed, storeSize, storeFault}
 use Rattle.graph.proofs.Maps.{keep-map, map-under}
-use Rattle.graph.proofs.Cut.{keep-every, cut-parts}
+use Rattle.graph.proofs.Cut.{cut-parts}
 use Rattle.graph.proofs.WellFormed.{WellFormed, fitting, well-formed}
 use Rattle.graph.proofs.Keys.{entryIn, keyAt, key-at, near-in, key-near, key-entry, key-below, edge-of, sortedKeys, forward-keys}
 use Rattle.graph.proofs.Parts.{offset, sideStart, length-store, store-shape, store-offset}
@@ -71,7 +71,7 @@ module _ (g : Graph) (w : WellFormed g) where
         cut-parts (key forward) (g .edges) (w .edges-ascend) (λ (v : ℕ). v * 16777216) refl (λ v. omega arith)
         (λ (v : ℕ). map (edgeOf v) (listIn (storeOf g ++ rest) v)) (g .vertices)
         (λ v l. ap (map (edgeOf v)) (list-in v l ∙ vertex-list g w forward v rest) ∙ edges-at v)
-        ∙ keep-every (λ (e : Edge). ltb (key forward e) (g .vertices * 16777216)) (g .edges)
+        ∙ keep-all (λ (e : Edge). ltb (key forward e) (g .vertices * 16777216)) (g .edges)
         (all-follows (fitting (g .vertices)) (λ (e : Edge). ltb (key forward e) (g .vertices * 16777216)) (g .edges) (w .edges-fit)
         (λ e t. key-below g w forward e t (g .vertices) ∙ lt-ltb (e .source) (g .vertices) (near-in g w forward e t)))
 
