@@ -1,5 +1,5 @@
 -- An ascending list cut at thresholds: how many elements are below one is where the others begin. Assumes nothing.
-use mathlib.Core.Path.{_≡_, refl, sym, _∙_, ap, ap₂, fun-ext}
+use mathlib.Core.Path.{_≡_, refl, sym, _∙_, ap, ap₂}
 use mathlib.Core.Bool.{Bool, true, false, cond, not, _&&_}
 use mathlib.Core.List.{List, [], _∷_, _++_, map, flatMap, append-assoc}
 use Prim.Native.Nat.{ℕ, zero, suc, _+_, _-_, _≤_, _<_}
@@ -8,34 +8,26 @@ use lib.Dec.{ltb}
 use lib.ListN.{length, take, drop, length-append}
 use lib.Seq.{take-at, drop-at}
 use borrow.Author.Tests.{ltb-true, lt-ltb, le-ltb, ltb-false}
-use Rattle.lists.specs.Lists.{range, all, keep, count, ascending}
-use Rattle.lists.proofs.Tests.{iff, and-l, and-r, and-both}
-use Rattle.lists.proofs.All.{keep-under, keep-append}
+use Rattle.lists.specs.Lists.{_⇒_, range, all, keep, count, ascending}
+use Rattle.lists.proofs.Tests.{iff, and-l, and-both, imp-intro}
+use Rattle.lists.proofs.All.{all-keep, keep-ext, keep-keep, keep-under, keep-append}
 use Rattle.lists.proofs.Count.{all-map, length-keep}
 use Rattle.lists.proofs.Sort.{ascends-above, ascends-tail}
 use Rattle.graph.proofs.Maps.{flatMap-suc}
 
 module _ {A : Type 0} where
-  pub keep-keep : (p r : A → Bool) (xs : List A) → keep p (keep r xs) ≡ keep (λ x. r x && p x) xs
-  unfolding keep
-  keep-keep p r [] = refl
-  keep-keep p r (x ∷ xs) = go (r x) (keep-keep p r xs)
+  pub all-kept : (p : A → Bool) (xs : List A) → all p (keep p xs) ≡ true
+  unfolding all
+  all-kept p xs = all-keep p p xs ∙ always xs
     where
-      go : (b : Bool) → keep p (keep r xs) ≡ keep (λ y. r y && p y) xs
-          → keep p (cond b (x ∷ keep r xs) (keep r xs)) ≡ cond (b && p x) (x ∷ keep (λ y. r y && p y) xs) (keep (λ y. r y && p y) xs)
-      go true e = ap (λ (l : List A). cond (p x) (x ∷ l) l) e
-      go false e = e
+      always : (ys : List A) → all (λ x. p x ⇒ p x) ys ≡ true
+      always [] = refl
+      always (y ∷ ys) = and-both (p y ⇒ p y) _ (imp-intro (p y) (p y) (λ i. i)) (always ys)
 
   pub keep-none : (xs : List A) → keep (λ x. false) xs ≡ []
   unfolding keep
   keep-none [] = refl
   keep-none (x ∷ xs) = keep-none xs
-
-  pub keep-every : (p : A → Bool) (xs : List A) → all p xs ≡ true → keep p xs ≡ xs
-  unfolding keep all
-  keep-every p [] e = refl
-  keep-every p (x ∷ xs) e =
-      rw (and-l (p x) (all p xs) e) (ap (λ (l : List A). x ∷ l) (keep-every p xs (and-r (p x) (all p xs) e)))
 
   -- A test that all fail keeps nothing.
   pub keep-empty : (s p : A → Bool) (xs : List A) → all s xs ≡ true → ((x : A) → s x ≡ true → p x ≡ false) → keep p xs ≡ []
@@ -72,7 +64,7 @@ module _ {A : Type 0} (f : A → ℕ) where
       ap (keep (under u)) (cut xs t e)
       ∙ keep-append (under u) (keep (under t) xs) (keep (λ x. not (under t x)) xs)
       ∙ ap₂ (λ (l m : List A). l ++ m)
-      (keep-keep (under u) (under t) xs ∙ ap (λ (p : A → Bool). keep p xs) (fun-ext both))
+      (keep-keep (under u) (under t) xs ∙ keep-ext (λ x. under t x && under u x) (under t) xs both)
       (keep-keep (under u) (λ x. not (under t x)) xs)
     where
       under : ℕ → A → Bool
@@ -88,7 +80,8 @@ module _ {A : Type 0} (f : A → ℕ) where
       → take (count (λ x. ltb (f x) u) xs - count (λ x. ltb (f x) t) xs) (drop (count (λ x. ltb (f x) t) xs) xs)
       ≡ keep (λ x. not (ltb (f x) t) && ltb (f x) u) xs
   cut-part xs t u e h =
-      ap (take (count under xs - count low xs)) (ap (drop (count low xs)) whole ∙ drop-at (keep low xs) (mid ++ high) (count low xs) (length-keep low xs))
+      ap (take (count under xs - count low xs))
+      (ap (drop (count low xs)) whole ∙ drop-at (keep low xs) (mid ++ high) (count low xs) (length-keep low xs))
       ∙ take-at mid high (count under xs - count low xs) size
     where
       low : A → Bool
@@ -121,7 +114,7 @@ module _ {A : Type 0} (f : A → ℕ) where
   cut-parts xs e t z rise part zero h = rw z (sym (none xs))
     where
       none : (ys : List A) → keep (λ x. ltb (f x) 0) ys ≡ []
-      none ys = ap (λ (p : A → Bool). keep p ys) (fun-ext (λ x. le-ltb (f x) 0 (omega arith))) ∙ keep-none ys
+      none ys = keep-ext (λ x. ltb (f x) 0) (λ x. false) ys (λ x. le-ltb (f x) 0 (omega arith)) ∙ keep-none ys
   cut-parts xs e t z rise part (suc n) h =
       flatMap-suc part n ∙ ap₂ (λ (l m : List A). l ++ m) (cut-parts xs e t z rise part n (λ v l. h v (omega arith))) (h n (omega arith))
       ∙ sym (keep-below xs (t n) (t (suc n)) e (rise n))

@@ -1,23 +1,26 @@
 -- The encoder's round trip: the file of a well-formed graph is accepted and holds that graph. Assumes nothing.
 use mathlib.Core.Path.{_≡_, refl, sym, _∙_, ap, subst}
-use mathlib.Core.Bool.{true}
+use mathlib.Core.Bool.{true, false}
 use mathlib.Core.List.{List, [], _++_, map, flatMap, append-assoc, append-nil}
 use Prim.Native.Nat.{ℕ, _+_, _*_, _≤_, _<_}
 use native.Mathlib.Nat.{add-zero}
 use native.Mathlib.Omega.{arith}
 use lib.Dec.{ltb}
 use lib.ListN.{length, getD, length-append}
-use borrow.Author.Tests.{ltb-true}
-use Rattle.lists.specs.Lists.{range}
+use borrow.Author.Tests.{ltb-true, lt-ltb}
+use Rattle.lists.specs.Lists.{range, all}
+use Rattle.lists.proofs.All.{all-getD, all-range}
+use Rattle.lists.proofs.Count.{all-map}
 use Rattle.packed.specs.Field.{fieldAt, fillSet, bytesFor}
 use Rattle.packed.specs.Encode.{bitsOf, bytesOf, number, bitIn}
-use Rattle.packed.proofs.Encoded.{length-bytesOf, fill-bytesOf}
+use Rattle.packed.proofs.Number.{number-lt}
+use Rattle.packed.proofs.Encoded.{bitIn-lt, length-bytesOf, fill-bytesOf}
 use Rattle.packed.proofs.RoundTrip.{length-bitsOf, length-records, number-bitsOf, number-put, field-put, field-record}
 use Rattle.graph.specs.Graph.{Edge, Graph}
 use Rattle.graph.specs.File.{graphOf, graphFault, vertexCount, edgeCount, edgeStart, edgeIn, fileSize}
 use Rattle.graph.specs.Encode.{edgeBits, graphBits, encode}
 use Rattle.graph.specs.Store.{wellFormed}
-use Rattle.graph.proofs.Maps.{all-getD, map-indices}
+use Rattle.graph.proofs.Maps.{map-indices}
 use Rattle.graph.proofs.WellFormed.{WellFormed, Fitting, fitting, fitting-edge, well-formed}
 use Rattle.graph.proofs.FileGraph.{accepts, formed-file}
 
@@ -76,7 +79,8 @@ module _ (g : Graph) (w : WellFormed g) where
   edges-read =
       ap (λ (bits : List ℕ). fieldAt (bytesOf bits) 16 20)
       (append-assoc (bitsOf 16 (g .vertices) ++ bitsOf 20 (length (g .edges))) (labelBits g) (edgesBits g))
-      ∙ field-put (bitsOf 16 (g .vertices)) 20 (length (g .edges)) (labelBits g ++ edgesBits g) 16 (length-bitsOf 16 (g .vertices)) (w .few-edges)
+      ∙ field-put (bitsOf 16 (g .vertices)) 20 (length (g .edges)) (labelBits g ++ edgesBits g) 16 (length-bitsOf 16 (g .vertices))
+      (w .few-edges)
 
   label-at : (v : ℕ) → v < length (g .labels) → fieldAt (encode g) (36 + 16 * v) 16 ≡ getD (g .labels) v 0
   unfolding encode graphBits
@@ -85,7 +89,7 @@ module _ (g : Graph) (w : WellFormed g) where
       ap (λ (at : ℕ). fieldAt (encode g) at 16) from
       ∙ field-record (bitsOf 16 (g .vertices) ++ bitsOf 20 (length (g .edges))) (bitsOf 16) (g .labels) (edgesBits g) 36 16
       (simp (length-append, length-bitsOf)) (length-bitsOf 16) 0 v 0 16 h (omega arith)
-      ∙ number-bitsOf 16 (getD (g .labels) v 0) (ltb-true _ 65536 (all-getD (λ (l : ℕ). ltb l 65536) (g .labels) v 0 (w .labels-fit) h))
+      ∙ number-bitsOf 16 (getD (g .labels) v 0) (ltb-true _ 65536 (all-getD (λ (l : ℕ). ltb l 65536) (g .labels) v 0 h (w .labels-fit)))
 
   -- A field of edge i, at bits past its start.
   edge-field : (d : Edge) (i at k : ℕ) → i < length (g .edges) → at + k ≤ 40
@@ -105,7 +109,7 @@ module _ (g : Graph) (w : WellFormed g) where
       e = getD (g .edges) i d
 
       fits : Fitting (g .vertices) e
-      fits = fitting-edge (g .vertices) e (all-getD (fitting (g .vertices)) (g .edges) i d (w .edges-fit) h)
+      fits = fitting-edge (g .vertices) e (all-getD (fitting (g .vertices)) (g .edges) i d h (w .edges-fit))
 
       read : (at k : ℕ) → at + k ≤ 40 → fieldAt (encode g) (edgeStart (encode g) i + at) k ≡ number (bitIn (edgeBits e)) at k
       read at k l =
@@ -144,12 +148,22 @@ module _ (g : Graph) (w : WellFormed g) where
   unfolding encode
   file-accepted =
       accepts (encode g)
-      (formed-file (encode g) size (ap (fillSet (encode g)) (sym length-bits) ∙ fill-bytesOf (graphBits g)) (subst WellFormed (sym graph-read) w))
+      (formed-file (encode g) size fill (subst WellFormed (sym graph-read) w))
     where
+      fill : fillSet (encode g) (edgeStart (encode g) (edgeCount (encode g))) ≡ false
+      fill = ap (fillSet (encode g)) (sym length-bits) ∙ fill-bytesOf (graphBits g)
+
       size : length (encode g) ≡ fileSize (encode g)
       size = length-bytesOf (graphBits g) ∙ ap bytesFor length-bits ∙ omega arith
 
--- What is written is accepted, and read as it was written.
+-- What is written is bytes,
+pub encode-bytes : (g : Graph) → all (λ (b : ℕ). ltb b 256) (encode g) ≡ true
+unfolding encode bytesOf
+encode-bytes g =
+    all-map (λ (b : ℕ). ltb b 256) (λ (i : ℕ). number (bitIn (graphBits g)) (8 * i) 8) (range (bytesFor (length (graphBits g))))
+    ∙ all-range _ (bytesFor (length (graphBits g))) (λ i h. lt-ltb _ 256 (number-lt (bitIn (graphBits g)) (bitIn-lt (graphBits g)) (8 * i) 8))
+
+-- is accepted, and is read as it was written.
 pub encode-accepted : (g : Graph) → wellFormed g ≡ true → graphFault (encode g) ≡ 0
 encode-accepted g t = file-accepted g (well-formed g t)
 

@@ -5,9 +5,10 @@ use mathlib.Core.Bool.{Bool, true, not, _&&_}
 use mathlib.Core.List.{List, _++_}
 use Prim.Native.Nat.{ℕ, _≤_}
 use native.Mathlib.Omega.{arith}
+use lib.Dec.{ltb}
 use lib.ListN.{length, take, drop, take-append-drop, length-append}
 use borrow.Author.Tests.{eq-eqb, le-ltb}
-use Rattle.lists.specs.Lists.{same}
+use Rattle.lists.specs.Lists.{all, same}
 use Rattle.lists.specs.Refusal.{first}
 use Rattle.lists.proofs.Tests.{and-l, and-r, not-false}
 use Rattle.lists.proofs.Same.{same-true}
@@ -19,7 +20,7 @@ use Rattle.graph.specs.Store.{storeOf, storeSize, loadFault, loadStore, 
 use Rattle.graph.proofs.WellFormed.{well-formed}
 use Rattle.graph.proofs.Parts.{length-store}
 use Rattle.graph.proofs.FileGraph.{file-well-formed}
-use Rattle.graph.proofs.EncodeGraph.{encode-accepted, encode-read}
+use Rattle.graph.proofs.EncodeGraph.{encode-bytes, encode-accepted, encode-read}
 use Rattle.graph.proofs.StoreGraph.{store-in, store-accepted}
 
 -- What the definition asks of a store that is not refused.
@@ -32,12 +33,18 @@ store-formed store e =
     let both : (formed && spelt) ≡ true = not-false (formed && spelt) (refuse-zero 18 (not (formed && spelt)) e) in
     (and-l formed spelt both, same-true _ _ (and-r formed spelt both))
 
--- Every store that is not refused has a file that loads to it: an accepted file of the graph that the store spells, whose words
--- are the store's first ones.
+-- Every store that is not refused has a file that loads to it: an accepted file, of bytes, of the graph that the store spells,
+-- whose words are the store's first ones.
 pub accepted-loads : (store : List ℕ) → storeFault store ≡ 0
     → (file : List ℕ) × (graphFault file ≡ 0) × (graphOf file ≡ graphIn store)
-    × (store ≡ storeOf (graphOf file) ++ drop (storeSize (graphOf file)) store)
-accepted-loads store e = (encode g, encode-accepted g formed, read, subst (λ (h : Graph). store ≡ storeOf h ++ drop (storeSize h) store) (sym read) whole)
+    × (store ≡ storeOf (graphOf file) ++ drop (storeSize (graphOf file)) store) × (all (λ (b : ℕ). ltb b 256) file ≡ true)
+accepted-loads store e = (
+  encode g,
+  encode-accepted g formed,
+  read,
+  subst (λ (h : Graph). store ≡ storeOf h ++ drop (storeSize h) store) (sym read) whole,
+  encode-bytes g,
+)
   where
     g : Graph
     g = graphIn store
@@ -77,8 +84,8 @@ load-fits file room e h = rw (e, le-ltb room (storeSize (graphOf file)) h)
 
 -- A store that is not refused is what Load leaves in it of some file.
 pub load-exists : (store : List ℕ) → storeFault store ≡ 0
-    → (file : List ℕ) × (loadFault file (length store) ≡ 0) × (loadStore file store ≡ store)
-load-exists store e = (file, fits, load-store file store fits ∙ sym whole)
+    → (file : List ℕ) × (loadFault file (length store) ≡ 0) × (loadStore file store ≡ store) × (all (λ (b : ℕ). ltb b 256) file ≡ true)
+load-exists store e = (file, fits, load-store file store fits ∙ sym whole, accepted-loads store e .4)
   where
     file : List ℕ
     file = accepted-loads store e .0

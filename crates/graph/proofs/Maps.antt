@@ -3,7 +3,6 @@ use mathlib.Core.Path.{_≡_, refl, sym, _∙_, ap, ap₂}
 use mathlib.Core.Bool.{Bool, true, false, cond}
 use mathlib.Core.List.{List, [], _∷_, _++_, map, flatMap, append-assoc, append-nil}
 use Prim.Native.Nat.{ℕ, zero, suc, _<_}
-use native.Mathlib.Nat.{le-of-suc-le-suc, not-suc-le-zero}
 use native.Mathlib.Omega.{arith}
 use lib.ListN.{length, getD, take, drop, length-map}
 use lib.Seq.{ext-getD}
@@ -12,13 +11,6 @@ use Rattle.lists.proofs.Tests.{and-l, and-r}
 use Rattle.lists.proofs.All.{length-range, getD-range}
 use Rattle.lists.proofs.Sort.{at-ascending, ascending-at}
 use Rattle.packed.proofs.Encoded.{getD-image}
-
--- An element of a list passes the test that all pass.
-pub all-getD : {A : Type 0} (p : A → Bool) (xs : List A) (i : ℕ) (d : A) → all p xs ≡ true → i < length xs → p (getD xs i d) ≡ true
-unfolding all
-all-getD p [] i d e h = absurd (not-suc-le-zero h)
-all-getD p (x ∷ xs) zero d e h = and-l (p x) (all p xs) e
-all-getD p (x ∷ xs) (suc i) d e h = all-getD p xs i d (and-r (p x) (all p xs) e) (le-of-suc-le-suc h)
 
 module _ {A B : Type 0} where
   pub take-map : (f : A → B) (n : ℕ) (xs : List A) → take n (map f xs) ≡ map f (take n xs)
