@@ -6,6 +6,8 @@ ghost use Rattle.query.specs.Query.{edgeAt};
 ghost use Rattle.query.specs.File.{maxEdges};
 ghost use Rattle.query.specs.Answer.{edgeStruct, structOf, queryIn, Held, noQuery};
 
+pub mod set;
+
 pub struct Edge {
     pub source: usize,
     pub target: usize,
