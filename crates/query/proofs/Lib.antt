@@ -2,3 +2,4 @@
 pub mod Images
 pub mod Structs
 pub mod Masks
+pub mod Touch
