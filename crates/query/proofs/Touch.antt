@@ -3,18 +3,21 @@ use mathlib.Core.Path.{_≡_, refl, sym, _∙_, ap, ap₂}
 use mathlib.Core.Logic.{_⊎_, inl, inr}
 use mathlib.Core.Bool.{Bool, true, false, not, _&&_, _||_, or-assoc, or-false, and-true, and-false}
 use mathlib.Core.List.{List, [], _∷_, _++_, map}
-use Prim.Native.Nat.{ℕ, zero, suc, _^_, _<_}
+use Prim.Native.Nat.{ℕ, zero, suc, _+_, _^_, _<_}
+use native.Mathlib.Numerals.{add-one}
 use native.Mathlib.Nat.{lt-of-le-of-lt}
 use lib.Dec.{eqb}
-use lib.Bits.{bitAnd, and-le-l}
+use lib.Bits.{bitAnd, bitOr, and-le-l}
 use borrow.Author.Tests.{eqb-true, eq-eqb, ne-eqb}
 use Rattle.lists.specs.Lists.{range, any}
 use Rattle.lists.proofs.Tests.{clash, iff, fails, and-l, and-r, and-both, or-intro-l, or-intro-r, or-elim, eqb-refl, eqb-sym}
 use Rattle.graph.specs.Graph.{Edge}
 use Rattle.query.specs.Query.{Query, VertexSet, between, touches}
 use Rattle.query.specs.Mask.{inMask, MaskOf, only, neighbours}
+use Rattle.query.specs.Answer.{edgeOf, queryIn}
+use Rattle.query.specs.declared.Query.{Query as QueryStruct}
 use Rattle.query.proofs.Images.{image-suc}
-use Rattle.query.proofs.Masks.{in-and, in-none, mask-empty}
+use Rattle.query.proofs.Masks.{in-or, in-and, in-none, mask-empty}
 
 -- The other end of an edge of v is the vertex that the edge joins to v.
 pub from-source : (e : Edge) (v w : ℕ) → e .source ≡ v → between v (only w) e ≡ only (e .target) w
@@ -106,3 +109,22 @@ touches-mask k a m q v S h na ms = go (touches q v S) refl
         (mask-empty k (bitAnd a m) (lt-of-le-of-lt (and-le-l a m) h) (λ u. in-and a m u ∙ fails (inMask a u && inMask m u) (λ b.
         clash
         (touches-one q v u S (sym (ms u) ∙ and-r (inMask a u) (inMask m u) b) (sym (na u) ∙ and-l (inMask a u) (inMask m u) b)) t)))) refl
+
+-- ---- the neighbours of v by the first edges of a struct
+
+abbrev pub byFirst : QueryStruct → ℕ → ℕ → VertexSet
+byFirst d v i w = any (between v (only w)) (map (edgeOf d) (range i))
+
+pub by-none : (d : QueryStruct) (v : ℕ) → MaskOf 0 (byFirst d v 0)
+unfolding any range
+by-none d v w = in-none w
+
+pub by-next : (d : QueryStruct) (v i m n : ℕ) (e : Edge) → e ≡ edgeOf d i → MaskOf m (byFirst d v i)
+    → MaskOf n (λ (w : ℕ). between v (only w) e) → MaskOf (bitOr m n) (byFirst d v (i + 1))
+by-next d v i m n e r hm hn w =
+    in-or m n w ∙ ap₂ (λ (a b : Bool). a || b) (hm w) (hn w ∙ ap (between v (only w)) r)
+    ∙ rw add-one (sym (any-suc (between v (only w)) (edgeOf d) i))
+
+pub by-all : (d : QueryStruct) (v : ℕ) (w : ℕ) → byFirst d v (d .edges) w ≡ neighbours (queryIn d) v w
+unfolding queryIn
+by-all d v w = refl

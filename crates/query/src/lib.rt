@@ -1,10 +1,11 @@
 // The query: a small labelled graph whose vertices are to be matched. `specs/` says what a query file holds and when it is
 // refused, `proofs/` has the laws.
 ghost use mathlib.Core.Path.{_≡_};
-ghost use Prim.Native.Nat.{_≤_, _<_};
-ghost use Rattle.query.specs.Query.{edgeAt};
+ghost use Prim.Native.Nat.{ℕ, _≤_, _<_};
+ghost use Rattle.query.specs.Query.{edgeAt, between};
 ghost use Rattle.query.specs.File.{maxEdges};
-ghost use Rattle.query.specs.Answer.{edgeStruct, structOf, queryIn, Held, noQuery};
+ghost use Rattle.query.specs.Answer.{edgeStruct, asEdge, structOf, queryIn, Held, noQuery};
+ghost use Rattle.query.specs.Mask.{MaskOf, only, neighbours};
 
 pub mod set;
 
@@ -64,4 +65,32 @@ impl Query {
             label: self.edge_labels[i],
         }
     }
+
+    // The set of the vertices that a query edge joins to v, in either direction.
+    pub fn adjacent(self, v: usize) -> u32
+        requires { ⌜ Held self ⌝ }
+        ensures { λ r. ⌜ MaskOf r (neighbours (queryIn self) v) ⌝ }
+    {
+        let mut found = 0;
+        let mut i = 0;
+        while i < self.edges {
+            found = found | other_end(self.edge(i), v);
+            i += 1;
+        }
+        found
+    }
+}
+
+// The set of the edge's other end, where v is one of its ends; else the empty set.
+fn other_end(e: Edge, v: usize) -> u32
+    requires { ⌜ (e .source < 32) × (e .target < 32) ⌝ }
+    ensures { λ r. ⌜ MaskOf r (λ (w : ℕ). between v (only w) (asEdge e)) ⌝ }
+{
+    if e.source == v {
+        return set::only(e.target);
+    }
+    if e.target == v {
+        return set::only(e.source);
+    }
+    0
 }
