@@ -3,3 +3,4 @@ pub mod Images
 pub mod Structs
 pub mod Masks
 pub mod Touch
+pub mod Steps
