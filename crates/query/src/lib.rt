@@ -1,1 +1,96 @@
-// The query: specs/ has its file and the faults for which Read query refuses one.
+// The query: a small labelled graph whose vertices are to be matched. `specs/` says what a query file holds and when it is
+// refused, `proofs/` has the laws.
+ghost use mathlib.Core.Path.{_≡_};
+ghost use Prim.Native.Nat.{ℕ, _≤_, _<_};
+ghost use Rattle.query.specs.Query.{edgeAt, between};
+ghost use Rattle.query.specs.File.{maxEdges};
+ghost use Rattle.query.specs.Answer.{edgeStruct, asEdge, structOf, queryIn, Held, noQuery};
+ghost use Rattle.query.specs.Mask.{MaskOf, only, neighbours};
+
+pub mod set;
+
+pub struct Edge {
+    pub source: usize,
+    pub target: usize,
+    pub label: u32,
+}
+
+// n vertices with a label each, and m edges, field by field; every number past the n-th and the m-th is 0.
+pub struct Query {
+    pub vertices: usize,
+    pub edges: usize,
+    pub labels: [u32; Query::MAX_VERTICES],
+    pub sources: [u32; Query::MAX_EDGES],
+    pub targets: [u32; Query::MAX_EDGES],
+    pub edge_labels: [u32; Query::MAX_EDGES],
+}
+
+// What Read query answers: a refusal with a query of zeros, or 0 with the query.
+pub struct ReadQuery {
+    pub refusal: u32,
+    pub query: Query,
+}
+
+impl Query {
+    pub const MIN_VERTICES: usize = 2;
+
+    pub const MAX_VERTICES: usize = 8;
+
+    pub const MIN_EDGES: usize = 1;
+
+    pub const MAX_EDGES: usize = 24;
+
+    // The query of zeros.
+    pub fn none() -> Self
+        ensures { λ r. ⌜ r ≡ structOf noQuery ⌝ }
+    {
+        Query {
+            vertices: 0,
+            edges: 0,
+            labels: [0; Query::MAX_VERTICES],
+            sources: [0; Query::MAX_EDGES],
+            targets: [0; Query::MAX_EDGES],
+            edge_labels: [0; Query::MAX_EDGES],
+        }
+    }
+
+    // The edge of an index below m.
+    pub fn edge(self, i: usize) -> Edge
+        requires { ⌜ (i < self .edges) × (self .edges ≤ maxEdges) ⌝ }
+        ensures { λ r. ⌜ r ≡ edgeStruct (edgeAt (queryIn self) i) ⌝ }
+    {
+        Edge {
+            source: self.sources[i] as usize,
+            target: self.targets[i] as usize,
+            label: self.edge_labels[i],
+        }
+    }
+
+    // The set of the vertices that a query edge joins to v, in either direction.
+    pub fn adjacent(self, v: usize) -> u32
+        requires { ⌜ Held self ⌝ }
+        ensures { λ r. ⌜ MaskOf r (neighbours (queryIn self) v) ⌝ }
+    {
+        let mut found = 0;
+        let mut i = 0;
+        while i < self.edges {
+            found = found | other_end(self.edge(i), v);
+            i += 1;
+        }
+        found
+    }
+}
+
+// The set of the edge's other end, where v is one of its ends; else the empty set.
+fn other_end(e: Edge, v: usize) -> u32
+    requires { ⌜ (e .source < 32) × (e .target < 32) ⌝ }
+    ensures { λ r. ⌜ MaskOf r (λ (w : ℕ). between v (only w) (asEdge e)) ⌝ }
+{
+    if e.source == v {
+        return set::only(e.target);
+    }
+    if e.target == v {
+        return set::only(e.source);
+    }
+    0
+}

@@ -1,0 +1,6 @@
+-- Laws of the query: its struct, sets of its vertices as masks, and its refusals.
+pub mod Images
+pub mod Structs
+pub mod Masks
+pub mod Touch
+pub mod Steps
