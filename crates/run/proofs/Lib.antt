@@ -4,3 +4,5 @@ pub mod Accepted
 pub mod Listed
 pub mod Demand
 pub mod Pairs
+pub mod Laid
+pub mod Turns

@@ -2,3 +2,4 @@
 pub mod Pile
 pub mod Run
 pub mod Complete
+pub mod Scratch
