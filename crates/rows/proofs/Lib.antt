@@ -1,0 +1,3 @@
+-- Laws of rows in the code.
+pub mod Widths
+pub mod Opening
