@@ -1,11 +1,13 @@
 // The query: a small labelled graph whose vertices are to be matched. `specs/` says what a query file holds and when it is
 // refused, `proofs/` has the laws.
 ghost use mathlib.Core.Path.{_≡_};
+ghost use mathlib.Core.Bool.{not};
 ghost use Prim.Native.Nat.{ℕ, _≤_, _<_};
-ghost use Rattle.query.specs.Query.{edgeAt, between};
+ghost use Rattle.lists.specs.Refusal.{refuse};
+ghost use Rattle.query.specs.Query.{edgeAt, among, between, reached, connected};
 ghost use Rattle.query.specs.File.{maxEdges};
 ghost use Rattle.query.specs.Answer.{edgeStruct, asEdge, structOf, queryIn, Held, noQuery};
-ghost use Rattle.query.specs.Mask.{MaskOf, only, neighbours};
+ghost use Rattle.query.specs.Mask.{inMask, MaskOf, only, neighbours, grown};
 
 pub mod set;
 
@@ -78,6 +80,49 @@ impl Query {
             i += 1;
         }
         found
+    }
+
+    // The vertices of a set with those that an edge joins to it: one step of reaching.
+    fn reach(self, set: u32) -> u32
+        requires { ⌜ Held self ⌝ }
+        ensures { λ r. ⌜ MaskOf r (grown (queryIn self) (inMask set) (self .vertices)) ⌝ }
+    {
+        let mut next = set;
+        let mut w = 0;
+        while w < self.vertices {
+            if self.adjacent(w) & set == 0 {
+                w += 1;
+            } else {
+                next = next | set::only(w);
+                w += 1;
+            }
+        }
+        next
+    }
+
+    // The vertices that n steps lead to from vertex 0.
+    fn reached(self) -> u32
+        requires { ⌜ Held self ⌝ }
+        ensures { λ r. ⌜ MaskOf r (among (reached (queryIn self) (self .vertices))) ⌝ }
+    {
+        let mut seen = set::only(0);
+        let mut k = 0;
+        while k < self.vertices {
+            seen = self.reach(seen);
+            k += 1;
+        }
+        seen
+    }
+
+    // 11 where the query is not connected, else 0.
+    fn connected_fault(self) -> u32
+        requires { ⌜ Held self ⌝ }
+        ensures { λ r. ⌜ r ≡ refuse 11 (not (connected (queryIn self))) ⌝ }
+    {
+        if set::minus(set::below(self.vertices), self.reached()) != 0 {
+            return 11;
+        }
+        0
     }
 }
 
