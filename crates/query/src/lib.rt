@@ -9,6 +9,7 @@ ghost use Rattle.query.specs.File.{maxEdges};
 ghost use Rattle.query.specs.Answer.{edgeStruct, asEdge, structOf, queryIn, Held, noQuery};
 ghost use Rattle.query.specs.Mask.{inMask, MaskOf, only, neighbours, grown};
 
+mod file;
 pub mod set;
 
 pub struct Edge {

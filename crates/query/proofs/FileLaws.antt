@@ -1,0 +1,67 @@
+-- Laws of the query file and its faults. Assumes nothing.
+use mathlib.Core.Path.{_≡_, refl, sym, _∙_, ap, ap₂}
+use mathlib.Core.Bool.{Bool, true, false, cond, not, _&&_, _||_}
+use mathlib.Core.List.{List, [], _∷_, _++_, map, append-assoc}
+use Prim.Native.Nat.{ℕ, zero, suc, _+_, _*_, _^_, _≤_, _<_}
+use native.Mathlib.Numerals.{add-one}
+use native.Mathlib.Omega.{arith}
+use lib.Dec.{eqb, ltb, leb}
+use lib.ListN.{length}
+use borrow.Author.Tests.{ltb-true, ltb-false, lt-ltb, le-ltb}
+use Rattle.lists.specs.Lists.{range}
+use Rattle.lists.specs.Refusal.{refuse, first}
+use Rattle.lists.proofs.Tests.{iff}
+use Rattle.lists.proofs.Faults.{first-head, first-tail, refuse-zero}
+use Rattle.packed.specs.Field.{fieldAt, bitsIn, bytesFor, fillSet}
+use Rattle.packed.proofs.Laws.{field-add, field-lt}
+use Rattle.graph.specs.Graph.{Edge}
+use Rattle.query.specs.Query.{connected}
+use Rattle.query.specs.File.{vertexCount, edgeCount, edgeStart, edgeIn, queryOf, outsideLimits, key, ascends, badEdge, edgeFault, queryFault}
+use Rattle.query.specs.Parts.{limitsFault, sizeFault, edgeFrom, keyFault, edgesFault, fileFault, Readable}
+use Rattle.query.proofs.Refusals.{first-some, first-group, first-after, first-stop, first-next}
+
+-- The three fields of an edge, read as one, are its key.
+pub key-field : (s : List ℕ) (at : ℕ) → fieldAt s at 14 ≡ key (edgeFrom s at)
+key-field s at = omega (arith, field-add s at 6 8, field-add s at 3 3)
+
+-- The least key that ascends at edge i: one more than the key before it.
+unfoldable pub leastKey : List ℕ → ℕ → ℕ
+leastKey s zero = 0
+leastKey s (suc i) = key (edgeIn s i) + 1
+
+-- Not above the key before it is below the least that ascends.
+later : (a b : ℕ) → ltb b (a + 1) ≡ not (ltb a b)
+later a b = go (ltb a b) refl
+  where
+    go : (t : Bool) → ltb a b ≡ t → ltb b (a + 1) ≡ not t
+    go true e = let h : a < b = ltb-true a b e in le-ltb b (a + 1) (omega arith)
+    go false e = let h : b ≤ a = ltb-false a b e in lt-ltb b (a + 1) (omega arith)
+
+-- The fault of edge i, by its key.
+pub edge-by-key : (s : List ℕ) (i : ℕ) → keyFault (vertexCount s) (leastKey s i) (edgeIn s i) ≡ edgeFault s i
+unfolding leastKey
+edge-by-key s zero = rw (le-ltb (key (edgeIn s 0)) 0 (omega arith)) refl
+edge-by-key s (suc i) = rw (later (key (edgeIn s i)) (key (edgeIn s (suc i)))) refl
+
+-- Read query's refusal: the first fault of the file, then 11.
+pub query-parts : (s : List ℕ) → queryFault s ≡ first (fileFault s ∷ refuse 11 (not (connected (queryOf s))) ∷ [])
+unfolding queryFault fileFault edgesFault
+query-parts s = regroup _ _ _ _ _ _ (map (edgeFault s) (range (edgeCount s)))
+  where
+    regroup : (a b c d e f : ℕ) (es : List ℕ)
+        → first (a ∷ b ∷ c ∷ d ∷ e ∷ (es ++ (f ∷ []))) ≡ first (first (a ∷ b ∷ first (c ∷ d ∷ e ∷ []) ∷ first es ∷ []) ∷ f ∷ [])
+    regroup a b c d e f es =
+        first-after a _ _ (first-after b _ _ (first-group (c ∷ d ∷ e ∷ []) (es ++ (f ∷ [])) ∙ first-after (first (c ∷ d ∷ e ∷ [])) _ _ (first-group es (f ∷ []))))
+        ∙ first-group (a ∷ b ∷ first (c ∷ d ∷ e ∷ []) ∷ first es ∷ []) (f ∷ [])
+
+-- A file without a fault is readable.
+pub file-readable : (s : List ℕ) → fileFault s ≡ 0 → Readable s
+unfolding fileFault
+file-readable s e =
+    let rest : first (refuse 8 (outsideLimits s) ∷ sizeFault s (edgeStart s (edgeCount s)) ∷ edgesFault s (edgeCount s) ∷ []) ≡ 0 = first-tail _ _ e in
+    let size : sizeFault s (edgeStart s (edgeCount s)) ≡ 0 = first-head _ _ (first-tail _ _ rest) in
+    let long : bytesFor (edgeStart s (edgeCount s)) ≤ length s = ltb-false _ _ (refuse-zero 5 _ (first-head _ _ size)) in
+    record { limits = refuse-zero 7 _ (first-head _ _ rest); bits = omega arith }
+
+pub query-readable : (s : List ℕ) → queryFault s ≡ 0 → Readable s
+query-readable s e = file-readable s (first-head (fileFault s) _ (sym (query-parts s) ∙ e))
