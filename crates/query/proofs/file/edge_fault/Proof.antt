@@ -1,66 +1,78 @@
+-- `query::file::edge_fault` meets its contract: each test is one of the definition's. Assumes nothing.
+use native.Mathlib.Omega.{arith}
+use borrow.Author.Tests.{lt-ltb, le-ltb, eq-eqb, ne-eqb}
+use Rattle.lists.specs.Refusal.{first}
+use Rattle.query.specs.File.{key}
+use Rattle.query.specs.Parts.{edgeFrom}
 use borrow.Author.Needs.{needs}
 use Rattle.query.proofs.file.edge_fault.Statement.{statement}
 use Rattle.query.proofs.file.edge_fault.Tie as tie
-use Rattle.query.proofs.file.edge_fault.Reads as reads
-use Rattle.query.proofs.file.edge_fault.Lts as lts
-use Rattle.packed.proofs.field.Reads as field-reads
-use Rattle.query.proofs.file.edge_key.Reads as edge-key-reads
 
--- src/file.rt:90:16
 field-requires : tie.Need-field-requires
 field-requires c κs = search needs
 
--- src/file.rt:90:16
 cast-from : tie.Need-cast-from
 cast-from c = search needs
 
--- src/file.rt:91:26
 add-field : tie.Need-add-field
 add-field c = search needs
 
--- src/file.rt:91:14
 field-requires-2 : tie.Need-field-requires-2
 field-requires-2 c κs = search needs
 
--- src/file.rt:91:14
 cast-to : tie.Need-cast-to
 cast-to c = search needs
 
--- src/file.rt:93:9
 returns : tie.Need-returns
-returns c = ?
+unfolding first
+returns c =
+    let a = c .before .before .before .before .args in
+    let e = edgeFrom (a .file .now) (a .at) in
+    rw (le-ltb (e .source) (a .n) (omega arith))
 
--- src/file.rt:96:9
 returns-2 : tie.Need-returns-2
-returns-2 c = ?
+unfolding first
+returns-2 c =
+    let a = c .before .before .before .before .before .args in
+    let e = edgeFrom (a .file .now) (a .at) in
+    rw (lt-ltb (e .source) (a .n) (omega arith), le-ltb (e .target) (a .n) (omega arith))
 
--- src/file.rt:99:9
 returns-3 : tie.Need-returns-3
-returns-3 c = ?
+unfolding first
+returns-3 c =
+    let a = c .before .before .before .before .before .before .args in
+    let e = edgeFrom (a .file .now) (a .at) in
+    rw (lt-ltb (e .source) (a .n) (omega arith), lt-ltb (e .target) (a .n) (omega arith), eq-eqb (e .source) (e .target) (omega arith))
 
--- src/file.rt:101:20
 add-field-2 : tie.Need-add-field-2
 add-field-2 c = search needs
 
--- src/file.rt:101:8
 field-requires-3 : tie.Need-field-requires-3
 field-requires-3 c κs = search needs
 
--- src/file.rt:102:9
 returns-4 : tie.Need-returns-4
-returns-4 c = ?
+unfolding first
+returns-4 c =
+    let a = c .before .before .before .before .before .before .before .before .args in
+    let e = edgeFrom (a .file .now) (a .at) in
+    rw (lt-ltb (e .source) (a .n) (omega arith), lt-ltb (e .target) (a .n) (omega arith), ne-eqb (e .source) (e .target) (omega arith), eq-eqb (e .label) 0 (omega arith))
 
--- src/file.rt:104:8
 edge-key-requires : tie.Need-edge-key-requires
 edge-key-requires c κs = search needs
 
--- src/file.rt:105:9
 returns-5 : tie.Need-returns-5
-returns-5 c = ?
+unfolding first
+returns-5 c =
+    let a = c .before .before .before .before .before .before .before .before .before .before .args in
+    let e = edgeFrom (a .file .now) (a .at) in
+    rw (lt-ltb (e .source) (a .n) (omega arith), lt-ltb (e .target) (a .n) (omega arith), ne-eqb (e .source) (e .target) (omega arith), ne-eqb (e .label) 0 (omega arith), lt-ltb (key e) (a .least) (omega arith))
 
--- src/file.rt:86:1
 returns-6 : tie.Need-returns-6
-returns-6 c = ?
+unfolding first
+returns-6 c =
+    let a = c .before .before .before .before .before .before .before .before .before .before .args in
+    let e = edgeFrom (a .file .now) (a .at) in
+    rw (lt-ltb (e .source) (a .n) (omega arith), lt-ltb (e .target) (a .n) (omega arith), ne-eqb (e .source) (e .target) (omega arith), ne-eqb (e .label) 0 (omega arith), le-ltb (key e) (a .least) (omega arith))
 
 pub edge-fault-spec : {M : Type 1} → statement M
 edge-fault-spec =
