@@ -24,6 +24,9 @@ use Rattle.query.proofs.Refusals.{first-some, first-group, first-after,
 pub key-field : (s : List ℕ) (at : ℕ) → fieldAt s at 14 ≡ key (edgeFrom s at)
 key-field s at = omega (arith, field-add s at 6 8, field-add s at 3 3)
 
+pub key-lt : (s : List ℕ) (at : ℕ) → key (edgeFrom s at) < 2 ^ 14
+key-lt s at = rw (← key-field s at) (field-lt s at 14)
+
 -- The least key that ascends at edge i: one more than the key before it.
 unfoldable pub leastKey : List ℕ → ℕ → ℕ
 leastKey s zero = 0
@@ -42,6 +45,28 @@ pub edge-by-key : (s : List ℕ) (i : ℕ) → keyFault (vertexCount s) (leastKe
 unfolding leastKey
 edge-by-key s zero = rw (le-ltb (key (edgeIn s 0)) 0 (omega arith)) refl
 edge-by-key s (suc i) = rw (later (key (edgeIn s i)) (key (edgeIn s (suc i)))) refl
+
+-- What the code reads of edge i, at its place in the file.
+module _ (s : List ℕ) (n at i : ℕ) (count : n ≡ vertexCount s) (place : at ≡ 9 + 16 * n + 14 * i) where
+  edge-here : edgeFrom s at ≡ edgeIn s i
+  edge-here = ap (edgeFrom s) (place ∙ ap (λ (k : ℕ). 9 + 16 * k + 14 * i) count)
+
+  pub fault-here : (least fault : ℕ) → least ≡ leastKey s i → fault ≡ keyFault n least (edgeFrom s at) → fault ≡ edgeFault s i
+  fault-here least fault l f =
+      f ∙ ap (λ (k : ℕ). keyFault k least (edgeFrom s at)) count ∙ ap₂ (keyFault (vertexCount s)) l edge-here ∙ edge-by-key s i
+
+  pub least-next : (k : ℕ) → k ≡ key (edgeFrom s at) → k + 1 ≡ leastKey s (i + 1)
+  unfolding leastKey
+  least-next k e = rw (add-one i) (ap (λ (j : ℕ). j + 1) (e ∙ ap key edge-here))
+
+-- The faults of the first edges: one edge more, and the first edge at fault.
+pub edges-next : (s : List ℕ) (i : ℕ) → edgesFault s i ≡ 0 → edgeFault s i ≡ 0 → edgesFault s (i + 1) ≡ 0
+unfolding edgesFault
+edges-next s i = first-next (edgeFault s) i
+
+pub edges-stop : (s : List ℕ) (m i : ℕ) → i < m → edgesFault s i ≡ 0 → (edgeFault s i ≡ 0 → ⊥) → edgesFault s m ≡ edgeFault s i
+unfolding edgesFault
+edges-stop s m i = first-stop (edgeFault s) m i
 
 -- Read query's refusal: the first fault of the file, then 11.
 pub query-parts : (s : List ℕ) → queryFault s ≡ first (fileFault s ∷ refuse 11 (not (connected (queryOf s))) ∷ [])
