@@ -11,14 +11,14 @@ use borrow.Author.Tests.{ltb-true, ltb-false, lt-ltb, le-ltb}
 use Rattle.lists.specs.Lists.{range}
 use Rattle.lists.specs.Refusal.{refuse, first}
 use Rattle.lists.proofs.Tests.{iff}
-use Rattle.lists.proofs.Faults.{first-head, first-tail, refuse-zero}
+use Rattle.lists.proofs.Faults.{first-head, first-tail, first-cons, refuse-zero, zero-refuse}
 use Rattle.packed.specs.Field.{fieldAt, bitsIn, bytesFor, fillSet}
 use Rattle.packed.proofs.Laws.{field-add, field-lt}
 use Rattle.graph.specs.Graph.{Edge}
 use Rattle.query.specs.Query.{connected}
 use Rattle.query.specs.File.{vertexCount, edgeCount, edgeStart, edgeIn, queryOf, outsideLimits, key, ascends, badEdge, edgeFault, queryFault}
 use Rattle.query.specs.Parts.{limitsFault, sizeFault, edgeFrom, keyFault, edgesFault, fileFault, Readable}
-use Rattle.query.proofs.Refusals.{first-some, first-group, first-after, first-stop, first-next}
+use Rattle.query.proofs.Refusals.{first-some, first-one, first-group, first-after, first-stop, first-next}
 
 -- The three fields of an edge, read as one, are its key.
 pub key-field : (s : List ℕ) (at : ℕ) → fieldAt s at 14 ≡ key (edgeFrom s at)
@@ -79,14 +79,43 @@ query-parts s = regroup _ _ _ _ _ _ (map (edgeFault s) (range (edgeCount s)))
         first-after a _ _ (first-after b _ _ (first-group (c ∷ d ∷ e ∷ []) (es ++ (f ∷ [])) ∙ first-after (first (c ∷ d ∷ e ∷ [])) _ _ (first-group es (f ∷ []))))
         ∙ first-group (a ∷ b ∷ first (c ∷ d ∷ e ∷ []) ∷ first es ∷ []) (f ∷ [])
 
+-- The faults of a file of two bytes or more, one after the other: 8, then 6 and 7, then 9 and 10.
+module _ (s : List ℕ) where
+  pub short-first : length s < 2 → fileFault s ≡ 6
+  unfolding fileFault first
+  short-first h = rw (lt-ltb (length s) 2 h) refl
+
+  module _ (long : 2 ≤ length s) where
+    after-short : fileFault s ≡ first (refuse 8 (outsideLimits s) ∷ sizeFault s (edgeStart s (edgeCount s)) ∷ edgesFault s (edgeCount s) ∷ [])
+    unfolding fileFault
+    after-short = first-cons (refuse 6 (ltb (length s) 2)) _ (zero-refuse 6 (ltb (length s) 2) (le-ltb (length s) 2 long))
+
+    pub limits-first : (refuse 8 (outsideLimits s) ≡ 0 → ⊥) → fileFault s ≡ refuse 8 (outsideLimits s)
+    limits-first d = after-short ∙ first-some (refuse 8 (outsideLimits s)) _ d
+
+    module _ (within : outsideLimits s ≡ false) where
+      after-limits : fileFault s ≡ first (sizeFault s (edgeStart s (edgeCount s)) ∷ edgesFault s (edgeCount s) ∷ [])
+      after-limits = after-short ∙ first-cons (refuse 8 (outsideLimits s)) _ (zero-refuse 8 (outsideLimits s) within)
+
+      pub size-first : (sizeFault s (edgeStart s (edgeCount s)) ≡ 0 → ⊥) → fileFault s ≡ sizeFault s (edgeStart s (edgeCount s))
+      size-first d = after-limits ∙ first-some (sizeFault s (edgeStart s (edgeCount s))) _ d
+
+      pub edges-last : sizeFault s (edgeStart s (edgeCount s)) ≡ 0 → fileFault s ≡ edgesFault s (edgeCount s)
+      edges-last e = after-limits ∙ first-cons (sizeFault s (edgeStart s (edgeCount s))) _ e ∙ first-one (edgesFault s (edgeCount s))
+
+  -- A file of the size that its bits ask for has them.
+  pub size-bits : (b : ℕ) → sizeFault s b ≡ 0 → b ≤ bitsIn s
+  size-bits b e = let long : bytesFor b ≤ length s = ltb-false _ _ (refuse-zero 5 _ (first-head _ _ e)) in omega arith
+
 -- A file without a fault is readable.
 pub file-readable : (s : List ℕ) → fileFault s ≡ 0 → Readable s
 unfolding fileFault
 file-readable s e =
     let rest : first (refuse 8 (outsideLimits s) ∷ sizeFault s (edgeStart s (edgeCount s)) ∷ edgesFault s (edgeCount s) ∷ []) ≡ 0 = first-tail _ _ e in
-    let size : sizeFault s (edgeStart s (edgeCount s)) ≡ 0 = first-head _ _ (first-tail _ _ rest) in
-    let long : bytesFor (edgeStart s (edgeCount s)) ≤ length s = ltb-false _ _ (refuse-zero 5 _ (first-head _ _ size)) in
-    record { limits = refuse-zero 7 _ (first-head _ _ rest); bits = omega arith }
+    record {
+      limits = refuse-zero 7 _ (first-head _ _ rest);
+      bits = size-bits s (edgeStart s (edgeCount s)) (first-head _ _ (first-tail _ _ rest));
+    }
 
 pub query-readable : (s : List ℕ) → queryFault s ≡ 0 → Readable s
 query-readable s e = file-readable s (first-head (fileFault s) _ (sym (query-parts s) ∙ e))

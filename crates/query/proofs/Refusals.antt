@@ -7,7 +7,7 @@ use Prim.Native.Nat.{ℕ, zero, suc, _+_, _<_}
 use native.Mathlib.Nat.{eq-or-lt-of-le, le-of-suc-le-suc, not-suc-le-zero}
 use native.Mathlib.Numerals.{add-one}
 use lib.Dec.{eqb}
-use borrow.Author.Tests.{eq-eqb, ne-eqb}
+use borrow.Author.Tests.{eqb-true, eq-eqb, ne-eqb}
 use Rattle.lists.specs.Lists.{range}
 use Rattle.lists.specs.Refusal.{first}
 use Rattle.lists.proofs.Faults.{first-cons, first-append}
@@ -17,6 +17,14 @@ use Rattle.query.proofs.Images.{image-suc}
 pub first-some : (k : ℕ) (ks : List ℕ) → (k ≡ 0 → ⊥) → first (k ∷ ks) ≡ k
 unfolding first
 first-some k ks h = rw (ne-eqb k 0 h) refl
+
+pub first-one : (k : ℕ) → first (k ∷ []) ≡ k
+unfolding first
+first-one k = go (eqb k 0) refl
+  where
+    go : (b : Bool) → eqb k 0 ≡ b → cond b 0 k ≡ k
+    go true e = sym (eqb-true k 0 e)
+    go false e = refl
 
 -- A group of faults counts as its first one.
 pub first-group : (js ks : List ℕ) → first (js ++ ks) ≡ first (first js ∷ ks)
