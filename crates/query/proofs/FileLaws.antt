@@ -69,7 +69,7 @@ unfolding edgesFault
 edges-stop s m i = first-stop (edgeFault s) m i
 
 -- Read query's refusal: the first fault of the file, then 11.
-pub query-parts : (s : List ℕ) → queryFault s ≡ first (fileFault s ∷ refuse 11 (not (connected (queryOf s))) ∷ [])
+query-parts : (s : List ℕ) → queryFault s ≡ first (fileFault s ∷ refuse 11 (not (connected (queryOf s))) ∷ [])
 unfolding queryFault fileFault edgesFault
 query-parts s = regroup _ _ _ _ _ _ (map (edgeFault s) (range (edgeCount s)))
   where
@@ -78,6 +78,12 @@ query-parts s = regroup _ _ _ _ _ _ (map (edgeFault s) (range (edgeCount s)))
     regroup a b c d e f es =
         first-after a _ _ (first-after b _ _ (first-group (c ∷ d ∷ e ∷ []) (es ++ (f ∷ [])) ∙ first-after (first (c ∷ d ∷ e ∷ [])) _ _ (first-group es (f ∷ []))))
         ∙ first-group (a ∷ b ∷ first (c ∷ d ∷ e ∷ []) ∷ first es ∷ []) (f ∷ [])
+
+pub query-first : (s : List ℕ) → (fileFault s ≡ 0 → ⊥) → queryFault s ≡ fileFault s
+query-first s d = query-parts s ∙ first-some (fileFault s) _ d
+
+pub query-last : (s : List ℕ) → fileFault s ≡ 0 → queryFault s ≡ refuse 11 (not (connected (queryOf s)))
+query-last s e = query-parts s ∙ first-cons (fileFault s) _ e ∙ first-one (refuse 11 (not (connected (queryOf s))))
 
 -- The faults of a file of two bytes or more, one after the other: 8, then 6 and 7, then 9 and 10.
 module _ (s : List ℕ) where

@@ -3,7 +3,6 @@ use crate::Query;
 use packed::bytes_for;
 use packed::field;
 use packed::fill_set;
-
 ghost use mathlib.Core.Path.{_≡_};
 ghost use mathlib.Core.List.{map};
 ghost use Prim.Native.Nat.{_+_, _*_, _^_, _≤_, _<_};
@@ -161,7 +160,13 @@ pub fn labels(file: &[u8], n: usize) -> [u32; Query::MAX_VERTICES]
 }
 
 // One field of each of the m edges from bit position `at` on: `width` bits, `offset` bits past the edge's start; 0 past them.
-pub fn edge_fields(file: &[u8], at: usize, m: usize, offset: usize, width: usize) -> [u32; Query::MAX_EDGES]
+pub fn edge_fields(
+    file: &[u8],
+    at: usize,
+    m: usize,
+    offset: usize,
+    width: usize,
+) -> [u32; Query::MAX_EDGES]
     requires { ⌜ (offset + width ≤ 14) × (m ≤ maxEdges) × (at < 2 ^ 32) × (at + 14 * m ≤ bitsIn (now file)) ⌝ }
     ensures { λ r. ⌜ r ≡ padded maxEdges (map (edgeField (now (file .entry)) at offset width) (range m)) ⌝ }
 {

@@ -48,9 +48,10 @@ loop-less c = search needs
 
 loop-again : tie.Need-loop-again Inv-loop μ-loop
 loop-again c =
-    let a = c .before .before .before .before .args in
-    (omega arith,
-    padded-step (edgeField (a .file .now) (a .at) (a .offset) (a .width)) maxEdges _ _ _ (omega arith) (c .field .ensures) (c .before .before .loop .inv .1))
+    let a = c .before .before .before .before .args in (
+      omega arith,
+      padded-step (edgeField (a .file .now) (a .at) (a .offset) (a .width)) maxEdges _ _ _ (omega arith) (c .field .ensures) (c .before .before .loop .inv .1),
+    )
 
 returns : tie.Need-returns Inv-loop μ-loop
 returns c =

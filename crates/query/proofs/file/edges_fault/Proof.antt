@@ -54,9 +54,11 @@ loop-again c =
     let l = c .before .before .before .before .before .loop in
     let count = c .before .before .before .before .before .before .before .pre .0 in
     let place = c .before .before .before .edge-start .ensures in
-    let none = sym (fault-here (a .file .now) (a .n) _ (l .i) count place (l .least) _ (l .inv .2) (c .before .before .edge-fault .ensures)) ∙ c .before .if1 .left in
-    (omega arith, edges-next (a .file .now) (l .i) (l .inv .1) none,
-    least-next (a .file .now) (a .n) _ (l .i) count place (c .edge-key .result) (c .edge-key .ensures))
+    let none = sym (fault-here (a .file .now) (a .n) _ (l .i) count place (l .least) _ (l .inv .2) (c .before .before .edge-fault .ensures)) ∙ c .before .if1 .left in (
+      omega arith,
+      edges-next (a .file .now) (l .i) (l .inv .1) none,
+      least-next (a .file .now) (a .n) _ (l .i) count place (c .edge-key .result) (c .edge-key .ensures),
+    )
 
 returns-2 : tie.Need-returns-2 Inv-loop μ-loop
 returns-2 c =

@@ -44,9 +44,10 @@ loop-less : tie.Need-loop-less Inv-loop μ-loop
 loop-less c = search needs
 
 loop-again : tie.Need-loop-again Inv-loop μ-loop
-loop-again c =
-    (omega arith,
-    padded-step (labelIn (c .before .before .before .before .args .file .now)) maxVertices _ _ _ (omega arith) (c .field .ensures) (c .before .before .loop .inv .1))
+loop-again c = (
+  omega arith,
+  padded-step (labelIn (c .before .before .before .before .args .file .now)) maxVertices _ _ _ (omega arith) (c .field .ensures) (c .before .before .loop .inv .1),
+)
 
 returns : tie.Need-returns Inv-loop μ-loop
 returns c =
