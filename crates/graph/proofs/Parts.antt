@@ -13,7 +13,7 @@ use Rattle.lists.proofs.All.{length-range}
 use Rattle.lists.proofs.Sort.{length-sort}
 use Rattle.graph.proofs.Maps.{getD-map-range}
 use Rattle.graph.specs.Graph.{Edge, Graph, Direction, forward, backward, near, key}
-use Rattle.graph.specs.Store.{offsets, entries, storeOf, storeSize}
+use Rattle.graph.specs.Store.{offsets, entries, storeOf, storeSize, sideAt}
 
 pub length-offsets : (d : Direction) (g : Graph) → length (offsets d g) ≡ suc (g .vertices)
 unfolding offsets
@@ -43,8 +43,7 @@ side d g rest = offsets d g ++ (entries d g ++ rest)
 
 -- Where the offsets of a direction begin.
 abbrev pub sideStart : Direction → Graph → ℕ
-sideStart forward g = 2 + g .vertices
-sideStart backward g = 3 + 2 * g .vertices + length (g .edges)
+sideStart d g = sideAt d (g .vertices) (length (g .edges))
 
 -- What follows the offsets of a direction.
 abbrev pub sideEnd : Direction → Graph → List ℕ → List ℕ
