@@ -1,0 +1,2 @@
+-- The store's lookup: a vertex's list, and its portion for one label.
+pub mod Portion
