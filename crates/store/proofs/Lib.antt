@@ -3,3 +3,4 @@ pub mod Members
 pub mod Ascending
 pub mod Listed
 pub mod Portions
+pub mod Accepted
