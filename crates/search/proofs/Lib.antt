@@ -1,0 +1,4 @@
+-- Laws of searching an ascending list.
+pub mod Below
+pub mod Laws
+pub mod Loops
