@@ -1,24 +1,23 @@
 -- A store that is not refused: its counts, where its lists lie, and that they are the lists of its graph. Assumes nothing.
-use mathlib.Core.Path.{_≡_, refl, sym, _∙_, ap, ap₂, subst}
+use mathlib.Core.Path.{_≡_, refl, sym, _∙_, ap, ap₂, subst₂}
 use mathlib.Core.Bool.{true}
 use mathlib.Core.List.{List, _++_}
-use Prim.Native.Nat.{ℕ, suc, _+_, _-_, _*_, _≤_, _<_}
+use Prim.Native.Nat.{ℕ, suc, _+_, _-_, _≤_, _<_}
 use native.Mathlib.Omega.{arith}
-use native.Mathlib.Numerals.{add-one}
 use lib.Dec.{ltb}
 use lib.ListN.{length, getD, take, drop, take-append-drop, length-append}
 use borrow.Author.Tests.{ltb-true, lt-ltb}
+use Rattle.lists.specs.Lists.{ascending}
 use Rattle.lists.proofs.Count.{count-le}
 use Rattle.graph.specs.Graph.{Edge, Graph, Direction, forward, backward, near}
 use Rattle.graph.specs.Store.{storeOf, storeSize, sideAt, usedWords, graphIn, storeFault}
 use Rattle.graph.proofs.WellFormed.{WellFormed, fitting, well-formed}
 use Rattle.graph.proofs.Keys.{count-mono}
 use Rattle.graph.proofs.Parts.{offset, sideStart, length-store, store-offset}
-use Rattle.graph.proofs.VertexLists.{listAt}
 use Rattle.graph.proofs.Loads.{store-formed}
-use Rattle.store.specs.Side.{listOn, Within, sideIn}
+use Rattle.store.specs.Side.{listOn, Within, sideIn, Lookup}
 use Rattle.store.specs.Portion.{listOf}
-use Rattle.store.proofs.Listed.{store-list}
+use Rattle.store.proofs.Listed.{store-list, list-ascends}
 
 -- A side of a store ends within its words.
 side-ends : (d : Direction) (n m : ℕ) → sideAt d n m + n + 1 + m ≤ usedWords n m
@@ -84,3 +83,23 @@ module _ (store : List ℕ) (accepted : storeFault store ≡ 0) where
           (ap₂ (λ (n : ℕ) (s : List ℕ). take (offset d g (suc v) - offset d g v) (drop n s))
           (let e : sideStart d g + g .vertices + 1 + offset d g v ≡ sideStart d g + (suc (g .vertices) + offset d g v) = omega arith in e) store-whole
           ∙ store-list g graph-formed d v (drop (storeSize g) store))
+
+-- The same of a vertex that is looked up.
+module _ (store : List ℕ) (n side v : ℕ) (asked : Lookup store n side v) where
+  vertex-of : v < graphIn store .vertices
+  unfolding graphIn
+  vertex-of = omega arith
+
+  pub lookup-within : Within store n side v
+  unfolding graphIn
+  lookup-within =
+      subst₂ (λ (m s : ℕ). Within store m s v) (sym (asked .vertices)) (sym (asked .begins)) (list-within store (asked .accepted) (asked .direction) v vertex-of)
+
+  -- The list there, in the direction whose side begins there.
+  pub lookup-list : (d : Direction) → side ≡ sideIn d store → listOn store n side v ≡ listOf d (graphIn store) v
+  unfolding graphIn
+  lookup-list d e = ap₂ (λ (m s : ℕ). listOn store m s v) (asked .vertices) e ∙ list-on store (asked .accepted) d v vertex-of
+
+  pub lookup-ascends : ascending (listOn store n side v) ≡ true
+  lookup-ascends =
+      ap ascending (lookup-list (asked .direction) (asked .begins)) ∙ list-ascends (graphIn store) (graph-formed store (asked .accepted)) (asked .direction) v

@@ -4,3 +4,4 @@ pub mod Ascending
 pub mod Listed
 pub mod Portions
 pub mod Accepted
+pub mod Between

@@ -1,9 +1,9 @@
 -- A vertex's list: what stands in it, that it ascends, and that it is the words between two offsets of the store.
 -- Assumes nothing.
-use mathlib.Core.Path.{_≡_, refl, sym, _∙_, ap, ap₂}
+use mathlib.Core.Path.{_≡_, sym, _∙_, ap, ap₂}
 use mathlib.Core.Bool.{Bool, true, not, _&&_}
 use mathlib.Core.List.{List, _++_, map}
-use Prim.Native.Nat.{ℕ, suc, _+_, _*_, _/_, _%_, _≤_, _<_}
+use Prim.Native.Nat.{ℕ, suc, _+_, _*_, _%_, _≤_, _<_}
 use native.Mathlib.Omega.{arith}
 use lib.Dec.{eqb, leb, ltb}
 use borrow.Author.Tests.{eqb-true, eq-eqb, ltb-true, ltb-false, lt-ltb, le-ltb, le-leb}
@@ -12,7 +12,7 @@ use Rattle.lists.proofs.Tests.{iff, and-l, and-r, and-both, imp-intro, not-true
 use Rattle.lists.proofs.All.{all-keep, all-follows}
 use Rattle.lists.proofs.Count.{count-map, count-keep, count-under, all-map}
 use Rattle.lists.proofs.Sort.{count-sort, all-sort, ascending-once, ascending-same, sort-ascends}
-use Rattle.graph.specs.Graph.{Edge, Graph, Direction, near, far, entry, key}
+use Rattle.graph.specs.Graph.{Edge, Graph, Direction, near, entry, key}
 use Rattle.graph.specs.Store.{storeOf}
 use Rattle.graph.proofs.WellFormed.{WellFormed, Fitting, fitting, fitting-edge}
 use Rattle.graph.proofs.Keys.{entry-fits, far-in, key-entry, key-below, keys-ascend}
