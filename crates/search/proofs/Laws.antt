@@ -1,6 +1,6 @@
 -- Laws of `firstFrom`, the first index from `from` on whose word is not below x, in an ascending list. Assumes nothing.
-use mathlib.Core.Path.{_≡_, sym, _∙_, ap, ap₂}
-use mathlib.Core.Bool.{Bool, true, _&&_}
+use mathlib.Core.Path.{_≡_, refl, sym, _∙_, ap, ap₂}
+use mathlib.Core.Bool.{Bool, true, false, _&&_}
 use mathlib.Core.List.{List}
 use Prim.Native.Nat.{ℕ, _+_, _-_, _≤_, _<_, zero-le}
 use native.Mathlib.Nat.{add-sub-of-le, add-sub-cancel-left, zero-add}
@@ -8,9 +8,9 @@ use native.Mathlib.Omega.{arith}
 use lib.Dec.{eqb, leb, ltb}
 use lib.ListN.{length, getD, take, drop, length-drop}
 use lib.Seq.{getD-take, getD-drop, drop-drop, length-take-le}
-use borrow.Author.Tests.{ltb-true, lt-ltb}
+use borrow.Author.Tests.{ltb-true, lt-ltb, eqb-true, eq-eqb}
 use Rattle.lists.specs.Lists.{any, keep, ascending}
-use Rattle.lists.proofs.Tests.{iff}
+use Rattle.lists.proofs.Tests.{iff, fails, and-l, and-r, and-both}
 use Rattle.lists.proofs.All.{keep-keep}
 use Rattle.search.specs.Search.{below, firstFrom}
 use Rattle.search.proofs.Ascending.{ascending-drop, ascending-part}
@@ -24,6 +24,9 @@ first-from s from x = omega arith
 pub first-length : (s : List ℕ) (from x : ℕ) → from ≤ length s → firstFrom s from x ≤ length s
 unfolding firstFrom
 first-length s from x h = omega (arith, below-le x (drop from s), length-drop from s)
+
+pub first-within : (s : List ℕ) (from x : ℕ) {r : ℕ} → r ≡ firstFrom s from x → from ≤ length s → (from ≤ r) × (r ≤ length s)
+first-within s from x e h = omega (arith, first-from s from x, first-length s from x h)
 
 -- In the rest of the list it is the same.
 pub first-rest : (s : List ℕ) (from x : ℕ) → from + firstFrom (drop from s) 0 x ≡ firstFrom s from x
@@ -104,6 +107,18 @@ module _ (s : List ℕ) (up : ascending s ≡ true) where
       (ap (ltb (below x (drop from s))) (length-drop from s) ∙ ltb-shift from (below x (drop from s)) (length s) h)
       (getD-drop from s (below x (drop from s)) 0)
 
+  pub first-found : (from x : ℕ) {r : ℕ} → r ≡ firstFrom s from x → r < length s → getD s r 0 ≡ x → any (eqb x) (drop from s) ≡ true
+  first-found from x {r} e l i =
+      let at : (ltb r (length s) && eqb (getD s r 0) x) ≡ true = and-both _ _ (lt-ltb r (length s) l) (eq-eqb (getD s r 0) x i) in
+      first-any from x (omega (arith, first-from s from x)) ∙ (rw e at at)
+
+  pub first-absent : (from x : ℕ) {r : ℕ} → r ≡ firstFrom s from x → from ≤ length s → (r < length s → getD s r 0 ≡ x → ⊥) → any (eqb x) (drop from s) ≡ false
+  first-absent from x {r} e h f =
+      fails (any (eqb x) (drop from s))
+      (λ i.
+      let at : (ltb r (length s) && eqb (getD s r 0) x) ≡ true = rw e (sym (first-any from x h) ∙ i) in
+      f (ltb-true r (length s) (and-l (ltb r (length s)) (eqb (getD s r 0) x) at)) (eqb-true (getD s r 0) x (and-r (ltb r (length s)) (eqb (getD s r 0) x) at)))
+
   -- It cuts the words from `from` on: those below x come before it, the others from it on.
   pub first-take : (from x : ℕ) → take (firstFrom s from x - from) (drop from s) ≡ keep (λ (w : ℕ). ltb w x) (drop from s)
   unfolding firstFrom
@@ -133,10 +148,14 @@ first-part s up from n x h l =
     word : (i : ℕ) → i < n → getD (take n (drop from s)) i 0 ≡ getD s (from + i) 0
     word i q = rw (getD-take, getD-drop)
 
--- The words from x up to y stand between the two.
-pub first-between : (s : List ℕ) → ascending s ≡ true → (from x y : ℕ) → from ≤ length s → x ≤ y
+-- The words from x up to y stand between where a search for x ends and where one for y, from there on, does.
+pub first-between : (s : List ℕ) → ascending s ≡ true → (from x y : ℕ) {a b : ℕ} → a ≡ firstFrom s from x → b ≡ firstFrom s a y
+    → take (b - a) (drop a s) ≡ keep (λ (w : ℕ). leb x w && ltb w y) (drop from s)
+first-between s up from x y {a} ea eb =
+    let rest : drop a s ≡ keep (leb x) (drop from s) = rw ea (first-drop s up from x) in
+    rw eb (first-take s up a y) ∙ ap (keep (λ (w : ℕ). ltb w y)) rest ∙ keep-keep (λ (w : ℕ). ltb w y) (leb x) (drop from s)
+
+-- For x ≤ y both may be searched for from the same index.
+pub first-cut : (s : List ℕ) → ascending s ≡ true → (from x y : ℕ) → from ≤ length s → x ≤ y
     → take (firstFrom s from y - firstFrom s from x) (drop (firstFrom s from x) s) ≡ keep (λ (w : ℕ). leb x w && ltb w y) (drop from s)
-first-between s up from x y h l =
-    ap (λ (r : ℕ). take (r - firstFrom s from x) (drop (firstFrom s from x) s)) (sym (first-move s up from x y h l))
-    ∙ first-take s up (firstFrom s from x) y ∙ ap (keep (λ (w : ℕ). ltb w y)) (first-drop s up from x)
-    ∙ keep-keep (λ (w : ℕ). ltb w y) (leb x) (drop from s)
+first-cut s up from x y h l = first-between s up from x y refl (sym (first-move s up from x y h l))
