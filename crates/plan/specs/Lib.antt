@@ -2,3 +2,4 @@
 pub mod Plan
 pub mod Check
 pub mod File
+pub mod Answer

@@ -1,0 +1,22 @@
+-- Laws of refusals in order, for code that tests one condition after the other. Assumes nothing.
+use mathlib.Core.Path.{_≡_, refl}
+use mathlib.Core.Bool.{Bool, true, false}
+use mathlib.Core.List.{List, _∷_}
+use Prim.Native.Nat.{ℕ, suc}
+use lib.Dec.{eqb·suc-zero}
+use borrow.Author.Tests.{ne-eqb}
+use Rattle.lists.specs.Refusal.{refuse, first}
+
+-- A condition that holds is the refusal; one that does not is passed over.
+pub stops : (k : ℕ) (b : Bool) (ks : List ℕ) → b ≡ true → first (refuse (suc k) b ∷ ks) ≡ suc k
+unfolding first
+stops k b ks e = rw (e, eqb·suc-zero k)
+
+pub passes : (k : ℕ) (b : Bool) (ks : List ℕ) → b ≡ false → first (refuse k b ∷ ks) ≡ first ks
+unfolding first
+passes k b ks e = rw e
+
+-- A fault that is not 0 is the refusal.
+pub first-fault : (k : ℕ) (ks : List ℕ) → (k ≡ 0 → ⊥) → first (k ∷ ks) ≡ k
+unfolding first
+first-fault k ks h = rw (ne-eqb k 0 h)
