@@ -1,8 +1,8 @@
 // The packed files' one field reader. `specs/Field.antt` says what a field is, `proofs/` has the laws.
 ghost use mathlib.Core.Path.{_≡_};
-ghost use Prim.Native.Nat.{_+_, _*_, _/_, _%_, _^_, _≤_};
+ghost use Prim.Native.Nat.{_+_, _*_, _/_, _%_, _^_, _≤_, _<_};
 ghost use lib.ListN.{length, getD};
-ghost use Rattle.packed.specs.Field.{fieldAt};
+ghost use Rattle.packed.specs.Field.{fieldAt, bytesFor, fillSet};
 
 // The byte at `i`, 0 past the end.
 fn byte(s: &[u8], i: usize) -> u8
@@ -45,4 +45,20 @@ pub fn field(s: &[u8], at: usize, width: usize) -> u32
 {
     let after = 32 - at % 8 - width;
     cut(word(s, at / 8), after, width) as u32
+}
+
+// The bytes that `bits` bits take, the last one filled.
+pub fn bytes_for(bits: usize) -> usize
+    requires { ⌜ bits + 7 < 2 ^ 64 ⌝ }
+    ensures { λ r. ⌜ r ≡ bytesFor bits ⌝ }
+{
+    (bits + 7) / 8
+}
+
+// Whether a fill bit is set: one of those after the first `bits`, up to the end of their last byte.
+pub fn fill_set(s: &[u8], bits: usize) -> bool
+    requires { ⌜ bytesFor bits ≤ length (now s) ⌝ }
+    ensures { λ r. ⌜ r ≡ fillSet (now (s .entry)) bits ⌝ }
+{
+    field(s, bits, (8 - bits % 8) % 8) != 0
 }
