@@ -1,14 +1,21 @@
 -- Where a plan file's operators begin and whether their bits are there. Assumes nothing.
-use mathlib.Core.Path.{_≡_}
+use mathlib.Core.Path.{_≡_, refl, sym, _∙_, ap}
 use mathlib.Core.Bool.{Bool, true, false, cond}
-use mathlib.Core.List.{List}
-use Prim.Native.Nat.{ℕ, _≤_, _<_}
+use mathlib.Core.List.{List, map}
+use Prim.Native.Nat.{ℕ, _+_, _*_, _≤_, _<_}
+use native.Mathlib.Numerals.{add-one}
 use native.Mathlib.Omega.{arith}
 use lib.Dec.{eqb, ltb}
 use lib.ListN.{length}
-use borrow.Author.Tests.{lt-ltb, le-ltb}
+use borrow.Author.Tests.{lt-ltb, le-ltb, ltb-false}
+use Rattle.lists.specs.Lists.{range}
+use Rattle.lists.specs.Refusal.{first}
+use Rattle.lists.proofs.Faults.{first-head, first-tail, first-append, refuse-zero}
 use Rattle.packed.specs.Field.{bitsIn, bytesFor}
-use Rattle.plan.specs.File.{operandWidth}
+use Rattle.query.specs.Query.{Query}
+use Rattle.plan.specs.File.{kindAt, operandWidth, place, operatorFault}
+use Rattle.plan.specs.Answer.{endFaults, operatorsFaults}
+use Rattle.plan.proofs.Refusals.{none-more, fault-at}
 
 -- A file has fewer than b bits exactly where it has fewer bytes than b bits take.
 pub bits-lack : (s : List ℕ) (b : ℕ) → length s < bytesFor b → ltb (bitsIn s) b ≡ true
@@ -25,3 +32,38 @@ operand-width-le k = go (eqb k 0) (eqb k 1)
     go true b = omega arith
     go false true = omega arith
     go false false = omega arith
+
+-- An operator without fault has all its bits.
+pub operator-there : (q : Query) (s : List ℕ) (at : ℕ) → operatorFault q s at ≡ 0 → at + 2 + operandWidth (kindAt s at) ≤ bitsIn s
+operator-there q s at e =
+    ltb-false (bitsIn s) (at + 2 + operandWidth (kindAt s at)) (refuse-zero 11 _ (first-head _ _ (first-tail _ _ (first-tail _ _ e))))
+
+-- i operators without fault were passed, and the next one begins at a position.
+pub record Passed (q : Query) (s : List ℕ) (i at : ℕ) : Type 0 where
+  pub here : at ≡ place s i
+  pub near : at ≤ 5 + 7 * i
+  pub there : bytesFor at ≤ length s
+  pub sound : first (map (λ (j : ℕ). operatorFault q s (place s j)) (range i)) ≡ 0
+
+module _ (q : Query) (s : List ℕ) where
+  pub passed-none : 0 < length s → Passed q s 0 5
+  unfolding place range first
+  passed-none h = record { here = refl; near = omega arith; there = omega arith; sound = refl }
+
+  pub passed-more : (i at next : ℕ) → Passed q s i at → operatorFault q s at ≡ 0 → next ≡ at + 2 + operandWidth (kindAt s at) → Passed q s (i + 1) next
+  unfolding place
+  passed-more i at next p e n =
+      record {
+        here = rw (add-one i, ← p .here) n;
+        near = omega (arith, operand-width-le (kindAt s at), p .near);
+        there = let all : next ≤ bitsIn s = rw n (operator-there q s at e) in omega arith;
+        sound = none-more (λ (j : ℕ). operatorFault q s (place s j)) i (p .sound) (rw (← p .here) e);
+      }
+
+  pub passed-stop : (i at k : ℕ) → Passed q s i at → i < k → (operatorFault q s at ≡ 0 → ⊥) → first (operatorsFaults q s k) ≡ operatorFault q s at
+  passed-stop i at k p h bad =
+      rw (p .here) (fault-at (λ (j : ℕ). operatorFault q s (place s j)) k i (endFaults s (place s k)) (p .sound) (rw (p .here) at bad) h)
+
+  pub passed-end : (k at : ℕ) → Passed q s k at → first (operatorsFaults q s k) ≡ first (endFaults s at)
+  passed-end k at p =
+      rw (p .here) (first-append (map (λ (j : ℕ). operatorFault q s (place s j)) (range k)) (endFaults s (place s k)) (p .sound))

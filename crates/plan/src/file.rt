@@ -1,17 +1,18 @@
 // The plan file: the operator count (5 bits), then each operator's kind (2) and operand (5, 3 or 0 by its kind).
 use crate::Plan;
+use packed::bytes_for;
 use packed::field;
+use packed::fill_set;
 ghost use mathlib.Core.Path.{_≡_};
 ghost use mathlib.Core.Bool.{not, _&&_};
 ghost use mathlib.Core.List.{[], _∷_};
-ghost use Prim.Native.Nat.{ℕ, _+_, _-_, _*_, _^_, _≤_, _<_};
+ghost use Prim.Native.Nat.{ℕ, _+_, _*_, _^_, _≤_, _<_};
 ghost use lib.Dec.{eqb, ltb};
 ghost use lib.ListN.{length};
 ghost use Rattle.lists.specs.Refusal.{refuse, first};
-ghost use Rattle.packed.specs.Field.{bitsIn, bytesFor, fillSet, fieldAt};
-ghost use Rattle.query.specs.Query.{Query};
+ghost use Rattle.packed.specs.Field.{bitsIn, bytesFor, fillSet};
 ghost use Rattle.plan.specs.File.{operatorCount, kindAt, operandWidth, operandAt, operatorFault};
-ghost use Rattle.plan.specs.Answer.{OfSize};
+ghost use Rattle.plan.specs.Answer.{ofSize, endFaults, operatorsFaults, fileFault};
 
 pub fn operator_count(file: &[u8]) -> usize
     requires { ⌜ 0 < length (now file) ⌝ }
@@ -72,7 +73,7 @@ fn operand_fault(kind: u32, operand: usize, n: usize, m: usize) -> u32
 // a position.
 fn operator_fault(file: &[u8], at: usize, n: usize, m: usize) -> u32
     requires { ⌜ at < 2 ^ 32 ⌝ }
-    ensures { λ r. ⌜ OfSize n m (λ (q : Query). r ≡ operatorFault q (now (file .entry)) at) ⌝ }
+    ensures { λ r. ⌜ r ≡ operatorFault (ofSize n m) (now (file .entry)) at ⌝ }
 {
     if file.len() < bytes_for(at + 2) {
         return 12;
@@ -90,27 +91,45 @@ fn operator_fault(file: &[u8], at: usize, n: usize, m: usize) -> u32
 // 13 where a byte follows those of the plan's bits or a fill bit is set, else 0.
 fn end_fault(file: &[u8], end: usize) -> u32
     requires { ⌜ (end < 2 ^ 32) × (bytesFor end ≤ length (now file)) ⌝ }
-    ensures { λ r. ⌜ r ≡ first (refuse 13 (ltb (bytesFor end) (length (now (file .entry)))) ∷ refuse 13 (fillSet (now (file .entry)) end) ∷ []) ⌝ }
+    ensures { λ r. ⌜ r ≡ first (endFaults (now (file .entry)) end) ⌝ }
 {
     if bytes_for(end) < file.len() {
         return 13;
     }
-    if fill(file, end) != 0 {
+    if fill_set(file, end) {
         return 13;
     }
     0
 }
 
-fn bytes_for(bits: usize) -> usize
-    requires { ⌜ bits < 2 ^ 60 ⌝ }
-    ensures { λ r. ⌜ r ≡ bytesFor bits ⌝ }
+// The fault of the first operator at fault, then of the file's end. `at` is the place of operator i.
+fn operators_fault(file: &[u8], count: usize, n: usize, m: usize) -> u32
+    requires { ⌜ (count ≤ 31) × (0 < length (now file)) ⌝ }
+    ensures { λ r. ⌜ r ≡ first (operatorsFaults (ofSize n m) (now (file .entry)) count) ⌝ }
 {
-    (bits + 7) / 8
+    let mut at = 5;
+    let mut i = 0;
+    while i < count {
+        let fault = operator_fault(file, at, n, m);
+        if fault != 0 {
+            return fault;
+        }
+        at = next_place(file, at);
+        i += 1;
+    }
+    end_fault(file, at)
 }
 
-fn fill(s: &[u8], bits: usize) -> u32
-    requires { ⌜ (bits < 2 ^ 60) × (bytesFor bits ≤ length (now s)) ⌝ }
-    ensures { λ r. ⌜ r ≡ fieldAt (now (s .entry)) bits (8 * bytesFor bits - bits) ⌝ }
+// The faults 12, 13, 14 of a plan file, for a query of n vertices and m edges; or 0.
+pub fn file_fault(file: &[u8], n: usize, m: usize) -> u32
+    ensures { λ r. ⌜ r ≡ fileFault (ofSize n m) (now (file .entry)) ⌝ }
 {
-    field(s, bits, 8 * bytes_for(bits) - bits)
+    if file.len() < 1 {
+        return 12;
+    }
+    let count = operator_count(file);
+    if count == 0 {
+        return 14;
+    }
+    operators_fault(file, count, n, m)
 }
