@@ -3,3 +3,4 @@ pub mod Plan
 pub mod Check
 pub mod File
 pub mod Answer
+pub mod Pile

@@ -1,5 +1,6 @@
 // The plan: operators in postfix order over a pile of results.
 mod file;
+mod rules;
 
 pub struct Plan {
     pub operators: usize,
