@@ -1,3 +1,5 @@
--- The query: a pattern, its file, and the faults for which Read query refuses one.
+-- The query: a pattern, its file, the faults for which Read query refuses one, and what it answers.
 pub mod Query
 pub mod File
+pub mod Mask
+pub mod Answer

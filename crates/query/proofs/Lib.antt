@@ -1,0 +1,4 @@
+-- Laws of the query: its struct, sets of its vertices as masks, and its refusals.
+pub mod Images
+pub mod Structs
+pub mod Masks

@@ -1,0 +1,91 @@
+-- Laws of a query as the code has it. Assumes nothing.
+use mathlib.Core.Path.{_≡_, refl, sym, _∙_, ap, ap₂}
+use mathlib.Core.Bool.{Bool, true, false, not, _&&_}
+use mathlib.Core.List.{List, [], _∷_, _++_, map}
+use Prim.Native.Nat.{ℕ, _+_, _*_, _≤_, _<_}
+use native.Mathlib.Omega.{arith}
+use lib.Dec.{leb}
+use lib.ListN.{length, getD, take, length-map, List·getD-map}
+use borrow.Author.Tests.{leb-true}
+use Rattle.lists.specs.Lists.{range}
+use Rattle.lists.proofs.Tests.{and-l, and-r, not-false}
+use Rattle.packed.specs.Field.{fieldAt}
+use Rattle.packed.proofs.Laws.{field-lt}
+use Rattle.graph.specs.Graph.{Edge}
+use Rattle.query.specs.Query.{Query, edgeAt}
+use Rattle.query.specs.File.{minVertices, maxVertices, minEdges, maxEdges, vertexCount, edgeCount, edgeStart, edgeIn, queryOf, outsideLimits}
+use Rattle.query.specs.Answer.{padded, structOf, edgeOf, queryIn, Held}
+use Rattle.query.specs.declared.Query.{Query as QueryStruct}
+use Rattle.query.proofs.Images.{length-image, getD-image, image-ext, image-getD, getD-padded, take-padded}
+
+abbrev noEdge : Edge
+noEdge = record { source = 0; label = 0; target = 0 }
+
+-- The edge of an index below the count.
+pub edge-in : (d : QueryStruct) (i : ℕ) → i < d .edges → edgeAt (queryIn d) i ≡ edgeOf d i
+unfolding queryIn
+edge-in d i h = getD-image (edgeOf d) (d .edges) i _ h
+
+-- An edge of a query is found in its struct.
+pub edge-of : (q : Query) (i : ℕ) → i < length (q .edges) → edgeOf (structOf q) i ≡ edgeAt q i
+unfolding structOf
+edge-of q i h =
+    λ k. record { source = field (λ (e : Edge). e .source) refl k; label = field (λ (e : Edge). e .label) refl k; target = field (λ (e : Edge). e .target) refl k }
+  where
+    field : (f : Edge → ℕ) → f noEdge ≡ 0 → getD (padded maxEdges (map f (q .edges))) i 0 ≡ f (edgeAt q i)
+    field f z =
+        getD-padded maxEdges (map f (q .edges)) i (rw (length-map (q .edges) f) h)
+        ∙ ap (getD (map f (q .edges)) i) (sym z) ∙ List·getD-map f (q .edges) i noEdge
+
+-- A struct holds the query that it was made of.
+pub in-struct : (q : Query) → length (q .labels) ≡ q .vertices → queryIn (structOf q) ≡ q
+unfolding queryIn structOf
+in-struct q e =
+    λ k. record {
+      vertices = q .vertices;
+      labels = (ap (λ (n : ℕ). take n (padded maxVertices (q .labels))) (sym e) ∙ take-padded maxVertices (q .labels)) k;
+      edges = (image-ext (edgeOf (structOf q)) (edgeAt q) (length (q .edges)) (edge-of q) ∙ image-getD (q .edges) _) k;
+    }
+
+-- ---- the query of a file
+
+-- What the limits of a file say.
+module _ (s : List ℕ) (ok : outsideLimits s ≡ false) where
+  within : (leb minVertices (vertexCount s) && leb (vertexCount s) maxVertices && leb minEdges (edgeCount s) && leb (edgeCount s) maxEdges) ≡ true
+  within = not-false _ ok
+
+  vertices-within : (leb minVertices (vertexCount s) && leb (vertexCount s) maxVertices) ≡ true
+  vertices-within = and-l _ (leb minEdges (edgeCount s)) (and-l _ (leb (edgeCount s) maxEdges) within)
+
+  pub at-least-vertices : minVertices ≤ vertexCount s
+  at-least-vertices = leb-true minVertices (vertexCount s) (and-l _ (leb (vertexCount s) maxVertices) vertices-within)
+
+  pub at-most-vertices : vertexCount s ≤ maxVertices
+  at-most-vertices = leb-true (vertexCount s) maxVertices (and-r (leb minVertices (vertexCount s)) _ vertices-within)
+
+  pub at-most-edges : edgeCount s ≤ maxEdges
+  at-most-edges = leb-true (edgeCount s) maxEdges (search (and-r, within))
+
+-- A file's query has a label for each vertex, so that its struct holds it.
+pub file-struct : (s : List ℕ) → queryIn (structOf (queryOf s)) ≡ queryOf s
+unfolding queryOf
+file-struct s = in-struct (queryOf s) (length-image (λ (w : ℕ). fieldAt s (9 + 16 * w) 16) (vertexCount s))
+
+-- The edges of a file's query.
+pub file-edge : (s : List ℕ) (i : ℕ) → i < edgeCount s → edgeAt (queryOf s) i ≡ edgeIn s i
+unfolding queryOf
+file-edge s i h = getD-image (edgeIn s) (edgeCount s) i _ h
+
+-- A file within the limits has a query that the code's functions take.
+pub held : (s : List ℕ) → outsideLimits s ≡ false → Held (structOf (queryOf s))
+unfolding structOf queryOf
+held s ok =
+    record {
+      vertices = at-most-vertices s ok;
+      edges = rw length-image (at-most-edges s ok);
+      source = λ i h. end i h (λ (e : Edge). e .source) (field-lt s (edgeStart s i) 3);
+      target = λ i h. end i h (λ (e : Edge). e .target) (field-lt s (edgeStart s i + 3) 3);
+    }
+  where
+    end : (i : ℕ) → i < length (queryOf s .edges) → (f : Edge → ℕ) → f (edgeIn s i) < maxVertices → f (edgeOf (structOf (queryOf s)) i) < maxVertices
+    end i h f l = rw (edge-of (queryOf s) i h, file-edge s i (rw length-image at h)) l
