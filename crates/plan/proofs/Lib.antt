@@ -1,4 +1,5 @@
--- Laws of the plan: its file, the sets that its results cover, and the answers.
+-- Laws of the plan: its file, its struct, the sets that its results cover, and the answers.
 pub mod Refusals
 pub mod Places
+pub mod Structs
 pub mod Stacks

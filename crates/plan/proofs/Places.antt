@@ -1,8 +1,10 @@
 -- Where a plan file's operators begin and whether their bits are there. Assumes nothing.
 use mathlib.Core.Path.{_≡_, refl, sym, _∙_, ap}
+use mathlib.Core.Logic.{_⊎_, inl, inr}
 use mathlib.Core.Bool.{Bool, true, false, cond}
 use mathlib.Core.List.{List, map}
-use Prim.Native.Nat.{ℕ, _+_, _*_, _≤_, _<_}
+use Prim.Native.Nat.{ℕ, zero, suc, _+_, _*_, _≤_, _<_}
+use native.Mathlib.Nat.{le-refl, eq-or-lt-of-le, le-of-suc-le-suc}
 use native.Mathlib.Numerals.{add-one}
 use native.Mathlib.Omega.{arith}
 use lib.Dec.{eqb, ltb}
@@ -14,7 +16,7 @@ use Rattle.lists.proofs.Faults.{first-head, first-tail, first-append, refuse-ze
 use Rattle.packed.specs.Field.{bitsIn, bytesFor}
 use Rattle.query.specs.Query.{Query}
 use Rattle.plan.specs.File.{kindAt, operandWidth, place, operatorFault}
-use Rattle.plan.specs.Answer.{endFaults, operatorsFaults}
+use Rattle.plan.specs.Faults.{endFaults, operatorsFaults}
 use Rattle.plan.proofs.Refusals.{none-more, fault-at}
 
 -- A file has fewer than b bits exactly where it has fewer bytes than b bits take.
@@ -32,6 +34,23 @@ operand-width-le k = go (eqb k 0) (eqb k 1)
     go true b = omega arith
     go false true = omega arith
     go false false = omega arith
+
+-- Operator i ends where the next begins, and so not past the end of a later one.
+pub place-next : (s : List ℕ) (i : ℕ) → place s (i + 1) ≡ place s i + 2 + operandWidth (kindAt s (place s i))
+unfolding place
+place-next s i = rw (add-one i)
+
+pub place-mono : (s : List ℕ) (i k : ℕ) → i ≤ k → place s i ≤ place s k
+unfolding place
+place-mono s i zero h = let none : i ≡ 0 = omega arith in rw none (le-refl 5)
+place-mono s i (suc k) h = go (place-mono s i k) (eq-or-lt-of-le h)
+  where
+    go : (i ≤ k → place s i ≤ place s k) → (i ≡ suc k) ⊎ (i < suc k) → place s i ≤ place s (suc k)
+    go f (inl e) = rw e (le-refl _)
+    go f (inr l) = let before : place s i ≤ place s k = f (le-of-suc-le-suc l) in omega arith
+
+pub place-end : (s : List ℕ) (i k : ℕ) → i < k → place s i + 2 + operandWidth (kindAt s (place s i)) ≤ place s k
+place-end s i k h = rw (← place-next s i) (place-mono s (i + 1) k (omega arith))
 
 -- An operator without fault has all its bits.
 pub operator-there : (q : Query) (s : List ℕ) (at : ℕ) → operatorFault q s at ≡ 0 → at + 2 + operandWidth (kindAt s at) ≤ bitsIn s
@@ -51,10 +70,9 @@ module _ (q : Query) (s : List ℕ) where
   passed-none h = record { here = refl; near = omega arith; there = omega arith; sound = refl }
 
   pub passed-more : (i at next : ℕ) → Passed q s i at → operatorFault q s at ≡ 0 → next ≡ at + 2 + operandWidth (kindAt s at) → Passed q s (i + 1) next
-  unfolding place
   passed-more i at next p e n =
       record {
-        here = rw (add-one i, ← p .here) n;
+        here = rw (place-next s i, ← p .here) n;
         near = omega (arith, operand-width-le (kindAt s at), p .near);
         there = let all : next ≤ bitsIn s = rw n (operator-there q s at e) in omega arith;
         sound = none-more (λ (j : ℕ). operatorFault q s (place s j)) i (p .sound) (rw (← p .here) e);
