@@ -2,3 +2,5 @@
 pub mod Images
 pub mod Structs
 pub mod Masks
+pub mod Touch
+pub mod Steps

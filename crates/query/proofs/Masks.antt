@@ -10,7 +10,10 @@ use lib.Dec.{eqb, ltb}
 use lib.Bits.{bitAnd, bitOr, bitXor, and-shr, or-shr, xor-shr, and-mod, or-mod, xor-mod}
 use lib.Pow.{pow-pos, pow-mono, pow-lt, pow-add, shl-exact, shl-shr, shr-shr, high, ones-lt, ones-split}
 use borrow.Author.Tests.{ltb-true, ltb-false, eqb-true, eqb-false, eq-eqb, ne-eqb, lt-ltb, le-ltb}
-use Rattle.lists.specs.Lists.{bit}
+use Rattle.lists.specs.Lists.{bit, range, all}
+use Rattle.lists.proofs.Tests.{clash, iff, fails, and-l, and-r, not-true, not-false}
+use Rattle.lists.proofs.All.{all-at, all-range}
+use Rattle.query.specs.Query.{VertexSet}
 use Rattle.query.specs.Mask.{inMask, MaskOf, only}
 
 -- The digit of a vertex, as the code reads it, and a shifted 1, as it makes one.
@@ -137,3 +140,14 @@ mask-unique (suc k) m n hm hn h =
 -- A number that has no vertex is 0.
 pub mask-empty : (k m : ℕ) → m < 2 ^ k → ((w : ℕ) → inMask m w ≡ false) → m ≡ 0
 mask-empty k m h e = mask-unique k m 0 h (pow-pos k) (λ w. e w ∙ sym (in-none w))
+
+-- S has every vertex below n where the mask of those that it lacks is 0.
+pub mask-all : (k m n : ℕ) (S : VertexSet) → m < 2 ^ k → MaskOf m (λ (w : ℕ). ltb w n && not (S w)) → all S (range n) ≡ eqb m 0
+mask-all k m n S h ms =
+    iff (all S (range n)) (eqb m 0)
+    (λ e. eq-eqb m 0 (mask-empty k m h (λ w. ms w ∙ fails (ltb w n && not (S w)) (λ b.
+    clash (all-at S n e w (ltb-true w n (and-l (ltb w n) (not (S w)) b))) (not-true (S w) (and-r (ltb w n) (not (S w)) b))))))
+    (λ e. all-range S n (λ w l. present (S w) (sym (rw (lt-ltb w n l) at (ms w)) ∙ ap (λ (x : ℕ). inMask x w) (eqb-true m 0 e) ∙ in-none w)))
+  where
+    present : (b : Bool) → not b ≡ false → b ≡ true
+    present = not-false

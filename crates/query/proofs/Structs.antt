@@ -14,7 +14,8 @@ use Rattle.packed.proofs.Laws.{field-lt}
 use Rattle.graph.specs.Graph.{Edge}
 use Rattle.query.specs.Query.{Query, edgeAt}
 use Rattle.query.specs.File.{minVertices, maxVertices, minEdges, maxEdges, vertexCount, edgeCount, edgeStart, edgeIn, queryOf, outsideLimits}
-use Rattle.query.specs.Answer.{padded, structOf, edgeOf, queryIn, Held}
+use Rattle.query.specs.Answer.{padded, edgeStruct, asEdge, structOf, edgeOf, queryIn, Held}
+use Rattle.query.specs.declared.Edge.{Edge as EdgeStruct}
 use Rattle.query.specs.declared.Query.{Query as QueryStruct}
 use Rattle.query.proofs.Images.{length-image, getD-image, image-ext, image-getD, getD-padded, take-padded}
 
@@ -25,6 +26,10 @@ noEdge = record { source = 0; label = 0; target = 0 }
 pub edge-in : (d : QueryStruct) (i : ℕ) → i < d .edges → edgeAt (queryIn d) i ≡ edgeOf d i
 unfolding queryIn
 edge-in d i h = getD-image (edgeOf d) (d .edges) i _ h
+
+-- The edge that `edge` returns.
+pub edge-read : (d : QueryStruct) (i : ℕ) (e : EdgeStruct) → i < d .edges → e ≡ edgeStruct (edgeAt (queryIn d) i) → asEdge e ≡ edgeOf d i
+edge-read d i e h r = ap asEdge r ∙ edge-in d i h
 
 -- An edge of a query is found in its struct.
 pub edge-of : (q : Query) (i : ℕ) → i < length (q .edges) → edgeOf (structOf q) i ≡ edgeAt q i

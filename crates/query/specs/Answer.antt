@@ -16,9 +16,12 @@ use Rattle.query.specs.declared.ReadQuery.{ReadQuery}
 unfoldable pub padded : ℕ → List ℕ → List ℕ
 padded k xs = xs ++ replicate (k - length xs) 0
 
--- A query edge as the code has it.
+-- A query edge as the code has it, and back.
 abbrev pub edgeStruct : Edge → EdgeStruct
 edgeStruct e = record { source = e .source; target = e .target; label = e .label }
+
+abbrev pub asEdge : EdgeStruct → Edge
+asEdge e = record { source = e .source; label = e .label; target = e .target }
 
 -- A query as the code has it: counts, and an array for each field of its vertices and edges.
 unfoldable pub structOf : Query → QueryStruct

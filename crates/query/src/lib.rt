@@ -1,10 +1,13 @@
 // The query: a small labelled graph whose vertices are to be matched. `specs/` says what a query file holds and when it is
 // refused, `proofs/` has the laws.
 ghost use mathlib.Core.Path.{_≡_};
-ghost use Prim.Native.Nat.{_≤_, _<_};
-ghost use Rattle.query.specs.Query.{edgeAt};
+ghost use mathlib.Core.Bool.{not};
+ghost use Prim.Native.Nat.{ℕ, _≤_, _<_};
+ghost use Rattle.lists.specs.Refusal.{refuse};
+ghost use Rattle.query.specs.Query.{edgeAt, among, between, reached, connected};
 ghost use Rattle.query.specs.File.{maxEdges};
-ghost use Rattle.query.specs.Answer.{edgeStruct, structOf, queryIn, Held, noQuery};
+ghost use Rattle.query.specs.Answer.{edgeStruct, asEdge, structOf, queryIn, Held, noQuery};
+ghost use Rattle.query.specs.Mask.{inMask, MaskOf, only, neighbours, grown};
 
 pub mod set;
 
@@ -64,4 +67,75 @@ impl Query {
             label: self.edge_labels[i],
         }
     }
+
+    // The set of the vertices that a query edge joins to v, in either direction.
+    pub fn adjacent(self, v: usize) -> u32
+        requires { ⌜ Held self ⌝ }
+        ensures { λ r. ⌜ MaskOf r (neighbours (queryIn self) v) ⌝ }
+    {
+        let mut found = 0;
+        let mut i = 0;
+        while i < self.edges {
+            found = found | other_end(self.edge(i), v);
+            i += 1;
+        }
+        found
+    }
+
+    // The vertices of a set with those that an edge joins to it: one step of reaching.
+    fn reach(self, set: u32) -> u32
+        requires { ⌜ Held self ⌝ }
+        ensures { λ r. ⌜ MaskOf r (grown (queryIn self) (inMask set) (self .vertices)) ⌝ }
+    {
+        let mut next = set;
+        let mut w = 0;
+        while w < self.vertices {
+            if self.adjacent(w) & set == 0 {
+                w += 1;
+            } else {
+                next = next | set::only(w);
+                w += 1;
+            }
+        }
+        next
+    }
+
+    // The vertices that n steps lead to from vertex 0.
+    fn reached(self) -> u32
+        requires { ⌜ Held self ⌝ }
+        ensures { λ r. ⌜ MaskOf r (among (reached (queryIn self) (self .vertices))) ⌝ }
+    {
+        let mut seen = set::only(0);
+        let mut k = 0;
+        while k < self.vertices {
+            seen = self.reach(seen);
+            k += 1;
+        }
+        seen
+    }
+
+    // 11 where the query is not connected, else 0.
+    fn connected_fault(self) -> u32
+        requires { ⌜ Held self ⌝ }
+        ensures { λ r. ⌜ r ≡ refuse 11 (not (connected (queryIn self))) ⌝ }
+    {
+        if set::minus(set::below(self.vertices), self.reached()) != 0 {
+            return 11;
+        }
+        0
+    }
+}
+
+// The set of the edge's other end, where v is one of its ends; else the empty set.
+fn other_end(e: Edge, v: usize) -> u32
+    requires { ⌜ (e .source < 32) × (e .target < 32) ⌝ }
+    ensures { λ r. ⌜ MaskOf r (λ (w : ℕ). between v (only w) (asEdge e)) ⌝ }
+{
+    if e.source == v {
+        return set::only(e.target);
+    }
+    if e.target == v {
+        return set::only(e.source);
+    }
+    0
 }
