@@ -5,3 +5,4 @@ pub mod Places
 pub mod Structs
 pub mod Stacks
 pub mod Sets
+pub mod Piles

@@ -1,28 +1,36 @@
 -- Laws of the sets that results cover, as masks. Assumes nothing.
-use mathlib.Core.Path.{_≡_, refl, sym, _∙_, fun-ext}
-use mathlib.Core.Bool.{Bool, true, false, not, _&&_, _||_}
-use Prim.Native.Nat.{ℕ, _≤_, _<_}
-use native.Mathlib.Nat.{lt-of-lt-of-le}
-use lib.Dec.{lit≤}
-use lib.Bits.{bitOr}
+use mathlib.Core.Path.{_≡_, refl, sym, _∙_, ap, ap₂, fun-ext}
+use mathlib.Core.Bool.{Bool, true, false, not, _&&_, _||_, Bool·not-not}
+use Prim.Native.Nat.{ℕ, _^_, _≤_, _<_}
+use native.Mathlib.Nat.{lt-of-lt-of-le, lt-of-le-of-lt}
+use lib.Dec.{eqb, ltb, lit≤}
+use lib.Bits.{bitAnd, bitOr, and-le-l}
 use lib.ListN.{length}
-use Rattle.lists.specs.Lists.{_⇒_, all}
+use Rattle.lists.specs.Lists.{_⇒_, range, all, any}
 use Rattle.lists.proofs.Tests.{clash, fails, imp-intro, or-intro-l, or-intro-r}
 use Rattle.graph.specs.Graph.{Edge}
-use Rattle.query.specs.Query.{inside, edgeAt}
-use Rattle.query.specs.Mask.{inMask}
+use Rattle.query.specs.Query.{VertexSet, inside, edgeAt}
+use Rattle.query.specs.Mask.{inMask, MaskOf}
 use Rattle.query.specs.Answer.{edgeOf, queryIn, Held}
 use Rattle.query.specs.declared.Query.{Query as QueryStruct}
 use Rattle.query.proofs.Images.{length-image}
 use Rattle.query.proofs.Structs.{edge-in}
-use Rattle.query.proofs.Masks.{in-or}
+use Rattle.query.proofs.Masks.{in-or, in-and, mask-all}
 use Rattle.plan.specs.Plan.{union}
 use Rattle.plan.specs.Pile.{kept}
-use Rattle.plan.proofs.Indices.{all-index, index-all}
+use Rattle.plan.proofs.Indices.{any-all, all-index, index-all}
 
 -- A mask of both sides' vertices is that of their union.
 pub or-set : (b p : ℕ) → inMask (bitOr b p) ≡ union (inMask b) (inMask p)
 or-set b p = fun-ext (in-or b p)
+
+-- Some vertex below n passes a test where the mask of those below n and that of the test's have one in common.
+pub any-mask : (k a m n : ℕ) (t : VertexSet) → a < 2 ^ k → MaskOf a (λ (w : ℕ). ltb w n) → MaskOf m t → any t (range n) ≡ not (eqb (bitAnd a m) 0)
+any-mask k a m n t h below ms =
+    any-all t (range n)
+    ∙ ap not
+      (mask-all k (bitAnd a m) n (λ (w : ℕ). not (t w)) (lt-of-le-of-lt (and-le-l a m) h)
+      (λ w. in-and a m w ∙ ap₂ _&&_ (below w) (ms w ∙ sym (Bool·not-not (t w)))))
 
 -- An edge within one of two sets is kept by their join; within neither, it is lost where it lies within the union.
 module _ (b p : ℕ) (e : Edge) where

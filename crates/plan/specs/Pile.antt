@@ -7,7 +7,6 @@ use lib.Dec.{ltb}
 use Rattle.lists.specs.Lists.{_⇒_}
 use Rattle.graph.specs.Graph.{Edge}
 use Rattle.query.specs.Query.{Query, VertexSet, inside}
-use Rattle.query.specs.declared.Edge.{Edge as EdgeStruct}
 use Rattle.query.specs.Mask.{inMask}
 use Rattle.plan.specs.Plan.{Operator, scan, extend, join, union}
 use Rattle.plan.specs.declared.rules.Pile.{Pile}
@@ -30,10 +29,6 @@ abbrev pub named : Query → Operator → Bool
 named q (scan i) = ltb i (length (q .edges))
 named q (extend v) = ltb v (q .vertices)
 named q join = true
-
--- The query edge that a struct of the code is.
-abbrev pub edgeIs : EdgeStruct → Edge
-edgeIs e = record { source = e .source; label = e .label; target = e .target }
 
 -- A query edge is not lost in a join: 'every query edge within their union lies within one of them'.
 abbrev pub kept : VertexSet → VertexSet → Edge → Bool

@@ -1,3 +1,18 @@
+use mathlib.Core.Path.{_≡_, sym, _∙_, ap, ap₂}
+use mathlib.Core.Bool.{Bool, not, _&&_}
+use Prim.Native.Nat.{ℕ}
+use native.Mathlib.Omega.{arith}
+use lib.Dec.{eqb}
+use lib.ListN.{getD}
+use borrow.Author.Tests.{ne-eqb}
+use Rattle.lists.specs.Refusal.{refuse}
+use Rattle.query.specs.Answer.{queryIn}
+use Rattle.query.specs.Mask.{inMask}
+use Rattle.query.proofs.Masks.{mask-all}
+use Rattle.plan.specs.Check.{endFault}
+use Rattle.plan.specs.Pile.{masksIn, setsIn}
+use Rattle.plan.proofs.Stacks.{depth-is}
+use Rattle.plan.proofs.Piles.{end-none, end-one, end-many}
 use borrow.Author.Needs.{needs}
 use Rattle.plan.proofs.rules.end_fault.Statement.{statement}
 use Rattle.plan.proofs.rules.end_fault.Tie as tie
@@ -7,13 +22,30 @@ use Rattle.plan.proofs.rules.Pile.below_top.Reads as below-top-reads
 use Rattle.query.proofs.set.below.Reads as below-reads
 use Rattle.query.proofs.set.minus.Reads as minus-reads
 
+-- Over one result: it covers every vertex where the mask of those that it lacks is 0.
+settled : (c : tie.After-minus)
+    → let a = c .before .before .before .before .before .before .before .args in
+    endFault (queryIn (a .q)) (setsIn (a .pile)) ≡ refuse 18 (not (eqb (c .minus .result) 0))
+unfolding queryIn
+settled c =
+    let e = c .before .before .before in
+    let a = e .before .before .before .before .args in
+    end-one (queryIn (a .q)) (masksIn (a .pile)) (omega (arith, depth-is (a .pile)))
+    ∙ ap (λ (b : Bool). refuse 18 (not b))
+      (mask-all 32 (c .minus .result) (a .q .vertices) (inMask (getD (masksIn (a .pile)) 0 0)) (search needs)
+      (λ w. c .minus .ensures w ∙ ap₂ (λ (x y : Bool). x && not y) (c .before .before .below .ensures w) (ap (λ (t : ℕ). inMask t w) (c .before .below-top .ensures))))
+
 -- src/rules.rt:108:9
 returns : tie.Need-returns
-returns c = ?
+returns c =
+    let a = c .before .before .args in
+    sym (end-none (queryIn (a .q)) (masksIn (a .pile)) (omega (arith, depth-is (a .pile), c .if1 .taken)))
 
 -- src/rules.rt:111:9
 returns-2 : tie.Need-returns-2
-returns-2 c = ?
+returns-2 c =
+    let a = c .before .before .before .before .args in
+    sym (end-many (queryIn (a .q)) (masksIn (a .pile)) (omega (arith, depth-is (a .pile), c .if2 .taken)))
 
 -- src/rules.rt:113:19
 below-requires : tie.Need-below-requires
@@ -29,11 +61,11 @@ minus-requires c κs = search needs
 
 -- src/rules.rt:114:9
 returns-3 : tie.Need-returns-3
-returns-3 c = ?
+returns-3 c = sym (settled (c .before) ∙ rw (ne-eqb _ 0 (c .if3 .taken)))
 
 -- src/rules.rt:103:1
 returns-4 : tie.Need-returns-4
-returns-4 c = ?
+returns-4 c = sym (settled (c .before) ∙ rw (c .if3 .left))
 
 pub end-fault-spec : {M : Type 1} → statement M
 end-fault-spec =
