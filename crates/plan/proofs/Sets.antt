@@ -3,6 +3,8 @@ use mathlib.Core.Path.{_≡_, refl, sym, _∙_, ap, ap₂, fun-ext}
 use mathlib.Core.Bool.{Bool, true, false, not, _&&_, _||_, Bool·not-not}
 use Prim.Native.Nat.{ℕ, _^_, _≤_, _<_}
 use native.Mathlib.Nat.{lt-of-lt-of-le, lt-of-le-of-lt}
+use native.Mathlib.Omega.{arith}
+use borrow.Author.Tests.{ltb-true}
 use lib.Dec.{eqb, ltb, lit≤}
 use lib.Bits.{bitAnd, bitOr, and-le-l}
 use lib.ListN.{length}
@@ -16,8 +18,8 @@ use Rattle.query.specs.declared.Query.{Query as QueryStruct}
 use Rattle.query.proofs.Images.{length-image}
 use Rattle.query.proofs.Structs.{edge-in}
 use Rattle.query.proofs.Masks.{in-or, in-and, mask-all}
-use Rattle.plan.specs.Plan.{union}
-use Rattle.plan.specs.Pile.{kept}
+use Rattle.plan.specs.Plan.{scan, extend, union}
+use Rattle.plan.specs.Pile.{named, kept}
 use Rattle.plan.proofs.Indices.{any-all, all-index, index-all}
 
 -- A mask of both sides' vertices is that of their union.
@@ -64,3 +66,11 @@ edges-pass d t h = all-index t (queryIn d .edges) _ (λ i l. h i (rw (edges-leng
 
 pub edge-fails : (d : QueryStruct) (t : Edge → Bool) (i : ℕ) → i < d .edges → t (edgeAt (queryIn d) i) ≡ false → all t (queryIn d .edges) ≡ false
 edge-fails d t i l e = fails (all t (queryIn d .edges)) (λ a. clash (index-all t (queryIn d .edges) _ a i (rw (edges-length d) l)) e)
+
+-- The vertex and the edge that a named operator has.
+pub named-vertex : (d : QueryStruct) → Held d → (v : ℕ) → named (queryIn d) (extend v) ≡ true → v < 32
+unfolding queryIn
+named-vertex d h v e = omega (arith, ltb-true v (d .vertices) e, h .vertices)
+
+pub named-edge : (d : QueryStruct) (i : ℕ) → named (queryIn d) (scan i) ≡ true → i < d .edges
+named-edge d i e = rw (edges-length d) at (ltb-true i (length (queryIn d .edges)) e)

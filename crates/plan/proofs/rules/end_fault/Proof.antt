@@ -1,3 +1,4 @@
+-- `plan::rules::end_fault` meets its contract, by the depth of the pile. Assumes nothing.
 use mathlib.Core.Path.{_≡_, sym, _∙_, ap, ap₂}
 use mathlib.Core.Bool.{Bool, not, _&&_}
 use Prim.Native.Nat.{ℕ}
@@ -16,11 +17,6 @@ use Rattle.plan.proofs.Piles.{end-none, end-one, end-many}
 use borrow.Author.Needs.{needs}
 use Rattle.plan.proofs.rules.end_fault.Statement.{statement}
 use Rattle.plan.proofs.rules.end_fault.Tie as tie
-use Rattle.plan.proofs.rules.end_fault.Reads as reads
-use Rattle.plan.proofs.rules.end_fault.Lts as lts
-use Rattle.plan.proofs.rules.Pile.below_top.Reads as below-top-reads
-use Rattle.query.proofs.set.below.Reads as below-reads
-use Rattle.query.proofs.set.minus.Reads as minus-reads
 
 -- Over one result: it covers every vertex where the mask of those that it lacks is 0.
 settled : (c : tie.After-minus)
@@ -35,35 +31,28 @@ settled c =
       (mask-all 32 (c .minus .result) (a .q .vertices) (inMask (getD (masksIn (a .pile)) 0 0)) (search needs)
       (λ w. c .minus .ensures w ∙ ap₂ (λ (x y : Bool). x && not y) (c .before .before .below .ensures w) (ap (λ (t : ℕ). inMask t w) (c .before .below-top .ensures))))
 
--- src/rules.rt:108:9
 returns : tie.Need-returns
 returns c =
     let a = c .before .before .args in
     sym (end-none (queryIn (a .q)) (masksIn (a .pile)) (omega (arith, depth-is (a .pile), c .if1 .taken)))
 
--- src/rules.rt:111:9
 returns-2 : tie.Need-returns-2
 returns-2 c =
     let a = c .before .before .before .before .args in
     sym (end-many (queryIn (a .q)) (masksIn (a .pile)) (omega (arith, depth-is (a .pile), c .if2 .taken)))
 
--- src/rules.rt:113:19
 below-requires : tie.Need-below-requires
 below-requires c κs = search needs
 
--- src/rules.rt:113:43
 below-top-requires : tie.Need-below-top-requires
 below-top-requires c κs = search needs
 
--- src/rules.rt:113:8
 minus-requires : tie.Need-minus-requires
 minus-requires c κs = search needs
 
--- src/rules.rt:114:9
 returns-3 : tie.Need-returns-3
 returns-3 c = sym (settled (c .before) ∙ rw (ne-eqb _ 0 (c .if3 .taken)))
 
--- src/rules.rt:103:1
 returns-4 : tie.Need-returns-4
 returns-4 c = sym (settled (c .before) ∙ rw (c .if3 .left))
 

@@ -1,3 +1,4 @@
+-- `plan::rules::extend_fault` meets its contract, by its two tests as masks. Assumes nothing.
 use mathlib.Core.Path.{_≡_, refl, sym, _∙_}
 use mathlib.Core.Bool.{false, not}
 use lib.Dec.{eqb}
@@ -11,10 +12,6 @@ use Rattle.plan.proofs.Indices.{bit-one, bit-other}
 use borrow.Author.Needs.{needs}
 use Rattle.plan.proofs.rules.extend_fault.Statement.{statement}
 use Rattle.plan.proofs.rules.extend_fault.Tie as tie
-use Rattle.plan.proofs.rules.extend_fault.Reads as reads
-use Rattle.plan.proofs.rules.extend_fault.Lts as lts
-use Rattle.query.proofs.Query.adjacent.Reads as adjacent-reads
-use Rattle.query.proofs.set.member.Reads as member-reads
 
 -- Past the first test, v is not in the set; and an edge joins it to the set where its neighbours meet the set.
 outside : (c : tie.Else1) → inMask (c .before .before .args .s) (c .before .before .args .v) ≡ false
@@ -27,23 +24,18 @@ settled c =
     let a = c .before .before .before .args in
     touches-mask 32 (c .adjacent .result) (a .s) (queryIn (a .q)) (a .v) (inMask (a .s)) (search needs) (c .adjacent .ensures) (λ w. refl)
 
--- src/rules.rt:120:8
 member-requires : tie.Need-member-requires
 member-requires c κs = search needs
 
--- src/rules.rt:121:9
 returns : tie.Need-returns
 returns c = let a = c .before .before .args in rw (bit-one (inMask (a .s) (a .v)) (sym (c .before .member .ensures) ∙ c .if1 .taken))
 
--- src/rules.rt:123:8
 adjacent-requires : tie.Need-adjacent-requires
 adjacent-requires c κs = search needs
 
--- src/rules.rt:124:9
 returns-2 : tie.Need-returns-2
 returns-2 c = rw (outside (c .before .before), settled (c .before), c .if2 .taken)
 
--- src/rules.rt:116:1
 returns-3 : tie.Need-returns-3
 returns-3 c = rw (outside (c .before .before), settled (c .before), ne-eqb _ 0 (c .if2 .left))
 

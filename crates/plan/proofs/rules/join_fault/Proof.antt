@@ -1,3 +1,4 @@
+-- `plan::rules::join_fault` meets its contract: each of its tests is one of the join rules, as masks. Assumes nothing.
 use mathlib.Core.Path.{_≡_}
 use mathlib.Core.Bool.{not, _&&_}
 use Prim.Native.Nat.{ℕ}
@@ -15,11 +16,6 @@ use Rattle.plan.specs.Check.{joinable}
 use Rattle.plan.proofs.Sets.{any-mask}
 use Rattle.plan.proofs.rules.join_fault.Statement.{statement}
 use Rattle.plan.proofs.rules.join_fault.Tie as tie
-use Rattle.plan.proofs.rules.join_fault.Reads as reads
-use Rattle.plan.proofs.rules.join_fault.Lts as lts
-use Rattle.plan.proofs.rules.lost_edge_fault.Reads as lost-edge-fault-reads
-use Rattle.query.proofs.set.below.Reads as below-reads
-use Rattle.query.proofs.set.minus.Reads as minus-reads
 
 -- Some vertex passes a test: the mask of the test's vertices meets that of all.
 meets : (c : tie.After-below) (m : ℕ) (t : VertexSet) → MaskOf m t
@@ -44,42 +40,34 @@ probe-only : (c : tie.After-minus2)
     ≡ not (eqb (bitAnd (c .before .before .before .before .below .result) (c .minus2 .result)) 0)
 probe-only c = meets (c .before .before .before .before) _ _ (c .minus2 .ensures)
 
--- src/rules.rt:102:9
 below-requires : tie.Need-below-requires
 below-requires c κs = omega (arith, c .pre .vertices)
 
--- src/rules.rt:104:9
 returns : tie.Need-returns
 unfolding joinable
 returns c = rw (shared (c .before), c .if1 .taken)
 
--- src/rules.rt:106:14
 minus-requires : tie.Need-minus-requires
 minus-requires c κs = tt
 
--- src/rules.rt:107:9
 returns-2 : tie.Need-returns-2
 unfolding joinable
 returns-2 c =
     let n = c .before in
     rw (shared (n .before .before), ne-eqb _ 0 (n .before .if1 .left), build-only n, c .if2 .taken)
 
--- src/rules.rt:109:14
 minus-requires-2 : tie.Need-minus-requires-2
 minus-requires-2 c κs = tt
 
--- src/rules.rt:110:9
 returns-3 : tie.Need-returns-3
 unfolding joinable
 returns-3 c =
     let n = c .before in
     rw (shared (n .before .before .before .before), ne-eqb _ 0 (n .before .before .before .if1 .left), build-only (n .before .before), ne-eqb _ 0 (n .before .if2 .left), probe-only n, c .if3 .taken)
 
--- src/rules.rt:112:5
 lost-edge-fault-requires : tie.Need-lost-edge-fault-requires
 lost-edge-fault-requires c κs = search needs
 
--- src/rules.rt:98:1
 returns-4 : tie.Need-returns-4
 unfolding joinable
 returns-4 c =

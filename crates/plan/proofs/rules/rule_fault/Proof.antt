@@ -1,62 +1,74 @@
+-- `plan::rules::rule_fault` meets its contract, by the operator and the depth of the pile. Assumes nothing.
+use mathlib.Core.Path.{sym, _∙_}
+use native.Mathlib.Omega.{arith}
+use borrow.Author.Needs.{needs}
+use Rattle.plan.specs.Check.{ruleFault}
+use Rattle.plan.specs.Pile.{masksIn}
+use Rattle.plan.proofs.Sets.{named-vertex}
+use Rattle.plan.proofs.Stacks.{depth-is}
+use Rattle.plan.proofs.Piles.{extend-none, extend-some, join-few, join-two}
 use Rattle.plan.proofs.rules.rule_fault.Statement.{statement}
 use Rattle.plan.proofs.rules.rule_fault.Tie as tie
-use Rattle.plan.proofs.rules.rule_fault.Reads as reads
-use Rattle.plan.proofs.rules.rule_fault.Lts as lts
-use Rattle.plan.proofs.rules.Pile.below_top.Reads as below-top-reads
-use Rattle.plan.proofs.rules.extend_fault.Reads as extend-fault-reads
-use Rattle.plan.proofs.rules.join_fault.Reads as join-fault-reads
 
--- src/rules.rt:135:30
 enum-told : tie.Need-enum-told
-enum-told c = ?
+enum-told c = search needs
 
--- src/rules.rt:136:26
 enum-known-o : tie.Need-enum-known-o
-enum-known-o c = ?
+enum-known-o c = search needs
 
--- src/rules.rt:138:17
 returns : tie.Need-returns
-returns c = ?
+returns c =
+    let o = c .before .before .before in
+    let a = o .before .before .args in
+    rw (o .o .given .1) (sym (extend-none _ _ (masksIn (a .pile)) (omega (arith, depth-is (a .pile), c .if1 .taken))))
 
--- src/rules.rt:140:32
 below-top-requires : tie.Need-below-top-requires
-below-top-requires c κs = ?
+below-top-requires c κs = (c .if1 .left, c .before .before .before .before .before .pre .2)
 
--- src/rules.rt:140:13
 extend-fault-requires : tie.Need-extend-fault-requires
-extend-fault-requires c κs = ?
+extend-fault-requires c κs =
+    let o = c .before .before .before .before in
+    let pre = o .before .before .pre in
+    (pre .0, named-vertex _ (pre .0) _ (rw (o .o .given .1) at (pre .1)))
 
--- src/rules.rt:143:16
 enum-told-2 : tie.Need-enum-told-2
-enum-told-2 c = ?
+enum-told-2 c = search needs
 
--- src/rules.rt:144:17
 returns-2 : tie.Need-returns-2
-returns-2 c = ?
+returns-2 c =
+    let o = c .before .before in
+    let a = o .before .before .args in
+    rw (o .enum-told2 .given .1) (sym (join-few _ (masksIn (a .pile)) (omega (arith, depth-is (a .pile), c .if2 .taken))))
 
--- src/rules.rt:146:27
 below-top-requires-2 : tie.Need-below-top-requires-2
-below-top-requires-2 c κs = ?
+below-top-requires-2 c κs = (c .if2 .left, c .before .before .before .before .pre .2)
 
--- src/rules.rt:146:46
 below-top-requires-3 : tie.Need-below-top-requires-3
-below-top-requires-3 c κs = ?
+below-top-requires-3 c κs = (omega (arith, c .before .if2 .left), c .before .before .before .before .before .pre .2)
 
--- src/rules.rt:146:13
 join-fault-requires : tie.Need-join-fault-requires
-join-fault-requires c κs = ?
+join-fault-requires c κs = c .before .before .before .before .before .before .pre .0
 
--- src/rules.rt:130:1
 returns-3 : tie.Need-returns-3
-returns-3 c = ?
+unfolding ruleFault
+returns-3 c = rw (c .enum-told .given .1)
 
--- src/rules.rt:130:1
 returns-4 : tie.Need-returns-4
-returns-4 c = ?
+returns-4 c =
+    let t = c .before in
+    let o = t .before .before .before .before in
+    let a = o .before .before .args in
+    rw (o .o .given .1) (c .extend-fault .ensures ∙ rw (t .below-top .ensures) (sym (extend-some _ _ (masksIn (a .pile)) (omega (arith, depth-is (a .pile), t .before .if1 .left)))))
 
--- src/rules.rt:130:1
 returns-5 : tie.Need-returns-5
-returns-5 c = ?
+returns-5 c =
+    let t = c .before in
+    let e = t .before .before in
+    let o = e .before .before in
+    let a = o .before .before .args in
+    rw (o .enum-told2 .given .1)
+    (c .join-fault .ensures
+    ∙ rw (t .below-top3 .ensures, t .before .below-top2 .ensures) (sym (join-two _ (masksIn (a .pile)) (omega (arith, depth-is (a .pile), e .if2 .left)))))
 
 pub rule-fault-spec : {M : Type 1} → statement M
 rule-fault-spec =
