@@ -6,3 +6,4 @@ pub mod Structs
 pub mod Stacks
 pub mod Sets
 pub mod Piles
+pub mod Turns

@@ -50,6 +50,11 @@ module _ (q : Query) where
   extend-some v [] h = absurd (not-suc-le-zero h)
   extend-some v (m ∷ ms) h = refl
 
+  pub extend-asks : (v : ℕ) (ms : List ℕ) → ruleFault q (extend v) (map inMask ms) ≡ 0 → 0 < length ms
+  unfolding ruleFault
+  extend-asks v [] e = absurd (omega arith)
+  extend-asks v (m ∷ ms) e = zero-lt-suc (length ms)
+
   pub extend-covers : (v : ℕ) (ms : List ℕ) → 0 < length ms
       → covered q (extend v) (map inMask ms) ≡ plus v (inMask (getD ms 0 0)) ∷ map inMask (drop 1 ms)
   unfolding covered
@@ -69,6 +74,12 @@ module _ (q : Query) where
   join-two [] h = absurd (not-suc-le-zero h)
   join-two (m ∷ []) h = absurd (omega arith)
   join-two (m ∷ n ∷ ms) h = refl
+
+  pub join-asks : (ms : List ℕ) → ruleFault q join (map inMask ms) ≡ 0 → 1 < length ms
+  unfolding ruleFault
+  join-asks [] e = absurd (omega arith)
+  join-asks (m ∷ []) e = absurd (omega arith)
+  join-asks (m ∷ n ∷ ms) e = omega arith
 
   pub join-covers : (ms : List ℕ) → 1 < length ms
       → covered q join (map inMask ms) ≡ union (inMask (getD ms 1 0)) (inMask (getD ms 0 0)) ∷ map inMask (drop 2 ms)

@@ -26,6 +26,12 @@ pub first-fault : (k : ℕ) (ks : List ℕ) → (k ≡ 0 → ⊥) → first (k �
 unfolding first
 first-fault k ks h = rw (ne-eqb k 0 h)
 
+-- The first of one fault is that fault.
+pub first-only : (k : ℕ) → first (k ∷ []) ≡ k
+unfolding first
+first-only zero = refl
+first-only (suc k) = rw (eqb·suc-zero k)
+
 -- Of a fault for each number below n: none so far and none at i is none up to i.
 pub none-more : (f : ℕ → ℕ) (i : ℕ) → first (map f (range i)) ≡ 0 → f i ≡ 0 → first (map f (range (i + 1))) ≡ 0
 none-more f i none e =

@@ -12,13 +12,13 @@ use Rattle.lists.specs.Lists.{_⇒_, range, all, any}
 use Rattle.lists.proofs.Tests.{clash, fails, imp-intro, or-intro-l, or-intro-r}
 use Rattle.graph.specs.Graph.{Edge}
 use Rattle.query.specs.Query.{VertexSet, inside, edgeAt}
-use Rattle.query.specs.Mask.{inMask, MaskOf}
+use Rattle.query.specs.Mask.{inMask, MaskOf, only}
 use Rattle.query.specs.Answer.{edgeOf, queryIn, Held}
 use Rattle.query.specs.declared.Query.{Query as QueryStruct}
 use Rattle.query.proofs.Images.{length-image}
 use Rattle.query.proofs.Structs.{edge-in}
 use Rattle.query.proofs.Masks.{in-or, in-and, mask-all}
-use Rattle.plan.specs.Plan.{scan, extend, union}
+use Rattle.plan.specs.Plan.{scan, extend, plus, union}
 use Rattle.plan.specs.Pile.{named, kept}
 use Rattle.plan.proofs.Indices.{any-all, all-index, index-all}
 
@@ -26,13 +26,17 @@ use Rattle.plan.proofs.Indices.{any-all, all-index, index-all}
 pub or-set : (b p : ℕ) → inMask (bitOr b p) ≡ union (inMask b) (inMask p)
 or-set b p = fun-ext (in-or b p)
 
+-- The mask of v and a set's is that of the set with v.
+pub plus-set : (v m s : ℕ) → MaskOf m (only v) → inMask (bitOr m s) ≡ plus v (inMask s)
+plus-set v m s h = or-set m s ∙ fun-ext (λ w. ap (λ (b : Bool). b || inMask s w) (h w))
+
 -- Some vertex below n passes a test where the mask of those below n and that of the test's have one in common.
 pub any-mask : (k a m n : ℕ) (t : VertexSet) → a < 2 ^ k → MaskOf a (λ (w : ℕ). ltb w n) → MaskOf m t → any t (range n) ≡ not (eqb (bitAnd a m) 0)
 any-mask k a m n t h below ms =
     any-all t (range n)
     ∙ ap not
-      (mask-all k (bitAnd a m) n (λ (w : ℕ). not (t w)) (lt-of-le-of-lt (and-le-l a m) h)
-      (λ w. in-and a m w ∙ ap₂ _&&_ (below w) (ms w ∙ sym (Bool·not-not (t w)))))
+    (mask-all k (bitAnd a m) n (λ (w : ℕ). not (t w)) (lt-of-le-of-lt (and-le-l a m) h)
+    (λ w. in-and a m w ∙ ap₂ _&&_ (below w) (ms w ∙ sym (Bool·not-not (t w)))))
 
 -- An edge within one of two sets is kept by their join; within neither, it is lost where it lies within the union.
 module _ (b p : ℕ) (e : Edge) where

@@ -72,12 +72,18 @@ between-one v u S e s t =
 pub between-some : (v : ℕ) (S : VertexSet) (e : Edge) → between v S e ≡ true → (u : ℕ) × (S u ≡ true) × (between v (only u) e ≡ true)
 between-some v S e t =
     or-elim (eqb (e .source) v && S (e .target)) (S (e .source) && eqb (e .target) v) t
-    (λ h. (e .target, and-r (eqb (e .source) v) (S (e .target)) h,
-    or-intro-l (eqb (e .source) v && eqb (e .target) (e .target)) (eqb (e .source) (e .target) && eqb (e .target) v)
-    (and-both (eqb (e .source) v) (eqb (e .target) (e .target)) (and-l (eqb (e .source) v) (S (e .target)) h) (eqb-refl (e .target)))))
-    (λ h. (e .source, and-l (S (e .source)) (eqb (e .target) v) h,
-    or-intro-r (eqb (e .source) v && eqb (e .target) (e .source)) (eqb (e .source) (e .source) && eqb (e .target) v)
-    (and-both (eqb (e .source) (e .source)) (eqb (e .target) v) (eqb-refl (e .source)) (and-r (S (e .source)) (eqb (e .target) v) h))))
+    (λ h. (
+      e .target,
+      and-r (eqb (e .source) v) (S (e .target)) h,
+      or-intro-l (eqb (e .source) v && eqb (e .target) (e .target)) (eqb (e .source) (e .target) && eqb (e .target) v)
+          (and-both (eqb (e .source) v) (eqb (e .target) (e .target)) (and-l (eqb (e .source) v) (S (e .target)) h) (eqb-refl (e .target))),
+    ))
+    (λ h. (
+      e .source,
+      and-l (S (e .source)) (eqb (e .target) v) h,
+      or-intro-r (eqb (e .source) v && eqb (e .target) (e .source)) (eqb (e .source) (e .source) && eqb (e .target) v)
+          (and-both (eqb (e .source) (e .source)) (eqb (e .target) v) (eqb-refl (e .source)) (and-r (S (e .source)) (eqb (e .target) v) h)),
+    ))
 
 -- So some query edge runs between v and S exactly where S has a neighbour of v.
 pub touches-one : (q : Query) (v u : ℕ) (S : VertexSet) → S u ≡ true → neighbours q v u ≡ true → touches q v S ≡ true

@@ -28,8 +28,8 @@ settled c =
     let a = e .before .before .before .before .args in
     end-one (queryIn (a .q)) (masksIn (a .pile)) (omega (arith, depth-is (a .pile)))
     ∙ ap (λ (b : Bool). refuse 18 (not b))
-      (mask-all 32 (c .minus .result) (a .q .vertices) (inMask (getD (masksIn (a .pile)) 0 0)) (search needs)
-      (λ w. c .minus .ensures w ∙ ap₂ (λ (x y : Bool). x && not y) (c .before .before .below .ensures w) (ap (λ (t : ℕ). inMask t w) (c .before .below-top .ensures))))
+    (mask-all 32 (c .minus .result) (a .q .vertices) (inMask (getD (masksIn (a .pile)) 0 0)) (search needs)
+    (λ w. c .minus .ensures w ∙ ap₂ (λ (x y : Bool). x && not y) (c .before .before .below .ensures w) (ap (λ (t : ℕ). inMask t w) (c .before .below-top .ensures))))
 
 returns : tie.Need-returns
 returns c =

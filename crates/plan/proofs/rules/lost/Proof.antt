@@ -29,8 +29,8 @@ returns-3 c =
     let a = n .before .before .before .before .args in
     c .inside3 .ensures
     ∙ sym
-      (kept-neither (a .b) (a .p) (asEdge (a .e)) (sym (n .before .before .before .inside .ensures) ∙ n .before .before .if1 .left)
-      (sym (n .before .inside2 .ensures) ∙ n .if2 .left))
+    (kept-neither (a .b) (a .p) (asEdge (a .e)) (sym (n .before .before .before .inside .ensures) ∙ n .before .before .if1 .left)
+    (sym (n .before .inside2 .ensures) ∙ n .if2 .left))
 
 pub lost-spec : {M : Type 1} → statement M
 lost-spec =

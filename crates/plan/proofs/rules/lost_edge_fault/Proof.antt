@@ -47,10 +47,9 @@ loop-less c = omega arith
 
 loop-again : tie.Need-loop-again Inv-loop μ-loop
 loop-again c =
-    let l = c .before .before .before .before .before in
-    (
+    let l = c .before .before .before .before .before in (
       omega (arith, c .before .before .before .if1 .taken),
-      below-more _ (l .loop .i) (l .loop .inv .1) (not-false _ (sym (rw (c .before .before .edge .ensures) at (c .before .lost .ensures)) ∙ c .if2 .left))
+      below-more _ (l .loop .i) (l .loop .inv .1) (not-false _ (sym (rw (c .before .before .edge .ensures) at (c .before .lost .ensures)) ∙ c .if2 .left)),
     )
 
 returns-2 : tie.Need-returns-2 Inv-loop μ-loop

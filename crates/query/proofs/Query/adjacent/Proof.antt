@@ -28,9 +28,10 @@ other-end-requires c κs =
     let a = c .before .before .before .before .args in
     let i = c .before .before .before .loop .i in
     let below : i < a .self .edges = search needs in
-    let read : asEdge (c .edge .result) ≡ edgeOf (a .self) i = edge-read (a .self) i (c .edge .result) below (c .edge .ensures) in
-    (omega (arith, ap (λ (e : Edge). e .source) read, c .before .before .before .before .pre .source i below),
-    omega (arith, ap (λ (e : Edge). e .target) read, c .before .before .before .before .pre .target i below))
+    let read : asEdge (c .edge .result) ≡ edgeOf (a .self) i = edge-read (a .self) i (c .edge .result) below (c .edge .ensures) in (
+      omega (arith, ap (λ (e : Edge). e .source) read, c .before .before .before .before .pre .source i below),
+      omega (arith, ap (λ (e : Edge). e .target) read, c .before .before .before .before .pre .target i below),
+    )
 
 add-i : tie.Need-add-i Inv-loop μ-loop
 add-i c = search needs
@@ -41,10 +42,11 @@ loop-less c = search needs
 loop-again : tie.Need-loop-again Inv-loop μ-loop
 loop-again c =
     let a = c .before .before .before .before .before .args in
-    let i = c .before .before .before .before .loop .i in
-    (omega arith,
-    by-next (a .self) (a .v) i _ _ _ (edge-read (a .self) i (c .before .edge .result) (search needs) (c .before .edge .ensures))
-    (c .before .before .before .before .loop .inv .1) (c .other-end .ensures))
+    let i = c .before .before .before .before .loop .i in (
+      omega arith,
+      by-next (a .self) (a .v) i _ _ _ (edge-read (a .self) i (c .before .edge .result) (search needs) (c .before .edge .ensures))
+          (c .before .before .before .before .loop .inv .1) (c .other-end .ensures),
+    )
 
 returns : tie.Need-returns Inv-loop μ-loop
 returns c w =

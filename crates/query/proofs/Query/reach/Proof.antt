@@ -33,10 +33,11 @@ loop-less c = search needs
 loop-again : tie.Need-loop-again Inv-loop μ-loop
 loop-again c =
     let a = c .before .before .before .before .before .args in
-    let w = c .before .before .before .before .loop .w in
-    (omega arith,
-    grown-same (queryIn (a .self)) (inMask (a .set)) w _ (c .before .before .before .before .loop .inv .1)
-    (touches-mask 32 _ (a .set) (queryIn (a .self)) w (inMask (a .set)) (search needs) (c .before .adjacent .ensures) (λ u. refl) ∙ ap not (eq-eqb _ 0 (c .if2 .taken))))
+    let w = c .before .before .before .before .loop .w in (
+      omega arith,
+      grown-same (queryIn (a .self)) (inMask (a .set)) w _ (c .before .before .before .before .loop .inv .1)
+          (touches-mask 32 _ (a .set) (queryIn (a .self)) w (inMask (a .set)) (search needs) (c .before .adjacent .ensures) (λ u. refl) ∙ ap not (eq-eqb _ 0 (c .if2 .taken))),
+    )
 
 only-requires : tie.Need-only-requires Inv-loop μ-loop
 only-requires c κs = search needs
@@ -50,10 +51,11 @@ loop-less-2 c = search needs
 loop-again-2 : tie.Need-loop-again-2 Inv-loop μ-loop
 loop-again-2 c =
     let a = c .before .before .before .before .before .before .args in
-    let w = c .before .before .before .before .before .loop .w in
-    (omega arith,
-    grown-more (queryIn (a .self)) (inMask (a .set)) w _ _ (c .before .before .before .before .before .loop .inv .1) (c .only .ensures)
-    (touches-mask 32 _ (a .set) (queryIn (a .self)) w (inMask (a .set)) (search needs) (c .before .before .adjacent .ensures) (λ u. refl) ∙ ap not (ne-eqb _ 0 (c .before .if2 .left))))
+    let w = c .before .before .before .before .before .loop .w in (
+      omega arith,
+      grown-more (queryIn (a .self)) (inMask (a .set)) w _ _ (c .before .before .before .before .before .loop .inv .1) (c .only .ensures)
+          (touches-mask 32 _ (a .set) (queryIn (a .self)) w (inMask (a .set)) (search needs) (c .before .before .adjacent .ensures) (λ u. refl) ∙ ap not (ne-eqb _ 0 (c .before .if2 .left))),
+    )
 
 returns : tie.Need-returns Inv-loop μ-loop
 returns c u =

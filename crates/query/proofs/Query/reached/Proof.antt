@@ -33,10 +33,11 @@ loop-less c = search needs
 
 loop-again : tie.Need-loop-again Inv-loop μ-loop
 unfolding queryIn
-loop-again c =
-    (omega arith,
-    reached-more (queryIn (c .before .before .before .before .before .args .self)) (c .before .before .before .loop .k) _ _ (omega arith)
-    (c .before .before .before .loop .inv .1) (c .reach .ensures))
+loop-again c = (
+  omega arith,
+  reached-more (queryIn (c .before .before .before .before .before .args .self)) (c .before .before .before .loop .k) _ _ (omega arith)
+      (c .before .before .before .loop .inv .1) (c .reach .ensures),
+)
 
 returns : tie.Need-returns Inv-loop μ-loop
 returns c w =
