@@ -7,3 +7,4 @@ pub mod Stacks
 pub mod Sets
 pub mod Piles
 pub mod Turns
+pub mod Accepted
