@@ -5,10 +5,12 @@ ghost use mathlib.Core.Bool.{not};
 ghost use Prim.Native.Nat.{ℕ, _≤_, _<_};
 ghost use Rattle.lists.specs.Refusal.{refuse};
 ghost use Rattle.query.specs.Query.{edgeAt, among, between, reached, connected};
-ghost use Rattle.query.specs.File.{maxEdges};
-ghost use Rattle.query.specs.Answer.{edgeStruct, asEdge, structOf, queryIn, Held, noQuery};
+ghost use Rattle.query.specs.File.{maxEdges, queryOf, queryFault};
+ghost use Rattle.query.specs.Parts.{Readable};
+ghost use Rattle.query.specs.Answer.{edgeStruct, asEdge, structOf, queryIn, Held, noQuery, readAnswer};
 ghost use Rattle.query.specs.Mask.{inMask, MaskOf, only, neighbours, grown};
 
+mod file;
 pub mod set;
 
 pub struct Edge {
@@ -53,6 +55,28 @@ impl Query {
             sources: [0; Query::MAX_EDGES],
             targets: [0; Query::MAX_EDGES],
             edge_labels: [0; Query::MAX_EDGES],
+        }
+    }
+
+    // The query that a file holds.
+    pub fn of_file(file: &[u8]) -> Self
+        requires { ⌜ Readable (now file) ⌝ }
+        ensures { λ r. ⌜ r ≡ structOf (queryOf (now (file .entry))) ⌝ }
+    {
+        let n = file::vertex_count(file);
+        let m = file::edge_count(file);
+        let at = file::edge_start(n, 0);
+        let labels = file::labels(file, n);
+        let sources = file::edge_fields(file, at, m, 0, 3);
+        let targets = file::edge_fields(file, at, m, 3, 3);
+        let edge_labels = file::edge_fields(file, at, m, 6, 8);
+        Query {
+            vertices: n,
+            edges: m,
+            labels,
+            sources,
+            targets,
+            edge_labels,
         }
     }
 
@@ -138,4 +162,32 @@ fn other_end(e: Edge, v: usize) -> u32
         return set::only(e.source);
     }
     0
+}
+
+// Read query's refusal: 6, 8, 6, 7, then by edge 9, 10, then 11; or 0.
+pub fn query_fault(file: &[u8]) -> u32
+    ensures { λ r. ⌜ r ≡ queryFault (now (file .entry)) ⌝ }
+{
+    let fault = file::file_fault(file);
+    if fault != 0 {
+        return fault;
+    }
+    Query::of_file(file).connected_fault()
+}
+
+// Read query.
+pub fn read_query(file: &[u8]) -> ReadQuery
+    ensures { λ r. ⌜ r ≡ readAnswer (now (file .entry)) ⌝ }
+{
+    let refusal = query_fault(file);
+    if refusal != 0 {
+        return ReadQuery {
+            refusal,
+            query: Query::none(),
+        };
+    }
+    ReadQuery {
+        refusal: 0,
+        query: Query::of_file(file),
+    }
 }
