@@ -15,12 +15,12 @@ use Rattle.lists.proofs.Count.{all-map}
 use Rattle.lists.proofs.Faults.{first-head, first-tail, first-append-l, first-each, refuse-zero}
 use Rattle.packed.specs.Field.{bitsIn}
 use Rattle.query.specs.Query.{Query}
+use Rattle.query.proofs.Refusals.{first-group}
 use Rattle.plan.specs.Plan.{Operator, scan, extend, join}
 use Rattle.plan.specs.Check.{rulesFault}
 use Rattle.plan.specs.File.{operatorCount, kindAt, operandAt, operatorAt, place, operatorsOf, operatorFault, planFault}
-use Rattle.plan.specs.Faults.{ofSize, endFaults, operatorsFaults, fileFault}
+use Rattle.plan.specs.Parts.{ofSize, endFaults, operatorsFaults, fileFault}
 use Rattle.plan.specs.Pile.{named}
-use Rattle.plan.proofs.Refusals.{first-both}
 use Rattle.plan.proofs.Places.{operator-there}
 
 -- The faults of a plan are those of its file, then those of its rules.
@@ -28,7 +28,7 @@ pub plan-fault : (q : Query) (s : List ℕ) → planFault q s ≡ first (fileFau
 unfolding planFault fileFault
 plan-fault q s =
     rw (← append-assoc (map (λ (i : ℕ). operatorFault q s (place s i)) (range (operatorCount s))) (endFaults s (place s (operatorCount s))) rules)
-    (first-both (refuse 12 (ltb (bitsIn s) 5) ∷ refuse 14 (eqb (operatorCount s) 0) ∷ operatorsFaults q s (operatorCount s)) rules)
+    (first-group (refuse 12 (ltb (bitsIn s) 5) ∷ refuse 14 (eqb (operatorCount s) 0) ∷ operatorsFaults q s (operatorCount s)) rules)
   where
     rules : List ℕ
     rules = rulesFault q [] (operatorsOf s) ∷ []

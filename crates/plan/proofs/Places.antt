@@ -2,7 +2,7 @@
 use mathlib.Core.Path.{_≡_, refl, sym, _∙_, ap}
 use mathlib.Core.Logic.{_⊎_, inl, inr}
 use mathlib.Core.Bool.{Bool, true, false, cond}
-use mathlib.Core.List.{List, map}
+use mathlib.Core.List.{List, _∷_, map}
 use Prim.Native.Nat.{ℕ, zero, suc, _+_, _*_, _≤_, _<_}
 use native.Mathlib.Nat.{le-refl, eq-or-lt-of-le, le-of-suc-le-suc}
 use native.Mathlib.Numerals.{add-one}
@@ -15,9 +15,9 @@ use Rattle.lists.specs.Refusal.{first}
 use Rattle.lists.proofs.Faults.{first-head, first-tail, first-append, refuse-zero}
 use Rattle.packed.specs.Field.{bitsIn, bytesFor}
 use Rattle.query.specs.Query.{Query}
+use Rattle.query.proofs.Refusals.{first-some, first-group, first-stop, first-next}
 use Rattle.plan.specs.File.{kindAt, operandWidth, place, operatorFault}
-use Rattle.plan.specs.Faults.{endFaults, operatorsFaults}
-use Rattle.plan.proofs.Refusals.{none-more, fault-at}
+use Rattle.plan.specs.Parts.{endFaults, operatorsFaults}
 
 -- A file has fewer than b bits exactly where it has fewer bytes than b bits take.
 pub bits-lack : (s : List ℕ) (b : ℕ) → length s < bytesFor b → ltb (bitsIn s) b ≡ true
@@ -75,12 +75,18 @@ module _ (q : Query) (s : List ℕ) where
         here = rw (place-next s i, ← p .here) n;
         near = omega (arith, operand-width-le (kindAt s at), p .near);
         there = let all : next ≤ bitsIn s = rw n (operator-there q s at e) in omega arith;
-        sound = none-more (λ (j : ℕ). operatorFault q s (place s j)) i (p .sound) (rw (← p .here) e);
+        sound = first-next (λ (j : ℕ). operatorFault q s (place s j)) i (p .sound) (rw (← p .here) e);
       }
 
   pub passed-stop : (i at k : ℕ) → Passed q s i at → i < k → (operatorFault q s at ≡ 0 → ⊥) → first (operatorsFaults q s k) ≡ operatorFault q s at
   passed-stop i at k p h bad =
-      rw (p .here) (fault-at (λ (j : ℕ). operatorFault q s (place s j)) k i (endFaults s (place s k)) (p .sound) (rw (p .here) at bad) h)
+      rw (p .here)
+      (first-group (map fault (range k)) (endFaults s (place s k))
+      ∙ ap (λ (n : ℕ). first (n ∷ endFaults s (place s k))) (first-stop fault k i h (p .sound) (rw (p .here) at bad))
+      ∙ first-some _ _ (rw (p .here) at bad))
+    where
+      fault : ℕ → ℕ
+      fault j = operatorFault q s (place s j)
 
   pub passed-end : (k at : ℕ) → Passed q s k at → first (operatorsFaults q s k) ≡ first (endFaults s at)
   passed-end k at p =

@@ -8,7 +8,7 @@ use lib.ListN.{getD, set, replicate}
 use Rattle.lists.specs.Lists.{range}
 use Rattle.packed.specs.Field.{bitsIn}
 use Rattle.query.specs.Answer.{padded}
-use Rattle.query.proofs.Images.{length-image, getD-image, image-ext, padded-set, getD-padded}
+use Rattle.query.proofs.Images.{length-image, getD-image, image-ext, padded-step, getD-padded}
 use Rattle.plan.specs.Plan.{Operator}
 use Rattle.plan.specs.File.{operatorCount, kindAt, operandWidth, operandAt, operatorAt, place, operatorsOf}
 use Rattle.plan.specs.Answer.{maxOperators, planStruct, operatorOf, operatorIn, operatorsIn}
@@ -39,8 +39,8 @@ module _ (s : List ℕ) where
       record {
         here = rw (place-next s i, ← c .here) n;
         near = omega (arith, c .near);
-        kinds-are = rw (c .kinds-are, k, c .here) (padded-set (λ (j : ℕ). kindAt s (place s j)) maxOperators i h);
-        operands-are = rw (c .operands-are, o, c .here) (padded-set (λ (j : ℕ). operandAt s (place s j)) maxOperators i h);
+        kinds-are = padded-step (λ (j : ℕ). kindAt s (place s j)) maxOperators i _ _ h (rw (← c .here) k) (c .kinds-are);
+        operands-are = padded-step (λ (j : ℕ). operandAt s (place s j)) maxOperators i _ _ h (rw (← c .here) o) (c .operands-are);
       }
 
   pub copied-all : {at count : ℕ} {kinds operands : List ℕ} → count ≡ operatorCount s → Copied s count at kinds operands

@@ -10,13 +10,13 @@ use Rattle.lists.specs.Lists.{all}
 use Rattle.lists.specs.Refusal.{first}
 use Rattle.lists.proofs.Faults.{first-cons}
 use Rattle.query.specs.Query.{Query, VertexSet}
+use Rattle.query.proofs.Refusals.{first-some, first-one}
 use Rattle.query.proofs.Images.{length-image}
 use Rattle.plan.specs.Plan.{Operator, join}
 use Rattle.plan.specs.Check.{ruleFault, covered, endFault, rulesFault}
 use Rattle.plan.specs.Answer.{operatorIn, operatorsIn}
 use Rattle.plan.specs.Pile.{named}
 use Rattle.plan.specs.declared.Plan.{Plan as PlanStruct}
-use Rattle.plan.proofs.Refusals.{first-fault, first-only}
 use Rattle.plan.proofs.Indices.{index-all}
 use Rattle.plan.proofs.Structs.{operator-in}
 
@@ -39,11 +39,11 @@ module _ (q : Query) (p : PlanStruct) where
 
   pub rules-stop : (sets : List VertexSet) (i : ℕ) (o : Operator) → i < p .operators → o ≡ operatorIn p i → (ruleFault q o sets ≡ 0 → ⊥)
       → rulesFault q sets (drop i (operatorsIn p)) ≡ ruleFault q o sets
-  rules-stop sets i o h e bad = turn sets i o h e ∙ first-fault _ _ bad
+  rules-stop sets i o h e bad = turn sets i o h e ∙ first-some _ _ bad
 
   pub rules-pass : (sets : List VertexSet) (i : ℕ) (o : Operator) → i < p .operators → o ≡ operatorIn p i → ruleFault q o sets ≡ 0
       → rulesFault q sets (drop i (operatorsIn p)) ≡ rulesFault q (covered q o sets) (drop (i + 1) (operatorsIn p))
-  rules-pass sets i o h e good = turn sets i o h e ∙ first-cons _ _ good ∙ first-only _
+  rules-pass sets i o h e good = turn sets i o h e ∙ first-cons _ _ good ∙ first-one _
 
   pub rules-done : (sets : List VertexSet) (i : ℕ) → p .operators ≤ i → rulesFault q sets (drop i (operatorsIn p)) ≡ endFault q sets
   unfolding rulesFault

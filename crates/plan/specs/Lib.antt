@@ -2,6 +2,6 @@
 pub mod Plan
 pub mod Check
 pub mod File
-pub mod Faults
+pub mod Parts
 pub mod Answer
 pub mod Pile

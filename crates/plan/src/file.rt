@@ -12,7 +12,7 @@ ghost use lib.ListN.{length};
 ghost use Rattle.lists.specs.Refusal.{refuse, first};
 ghost use Rattle.packed.specs.Field.{bitsIn, bytesFor, fillSet};
 ghost use Rattle.plan.specs.File.{operatorCount, kindAt, operandWidth, operandAt, operatorFault};
-ghost use Rattle.plan.specs.Faults.{ofSize, endFaults, operatorsFaults, fileFault};
+ghost use Rattle.plan.specs.Parts.{ofSize, endFaults, operatorsFaults, fileFault};
 
 pub fn operator_count(file: &[u8]) -> usize
     requires { ⌜ 0 < length (now file) ⌝ }

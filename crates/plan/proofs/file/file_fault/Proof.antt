@@ -5,7 +5,7 @@ use native.Mathlib.Omega.{arith}
 use borrow.Author.Needs.{needs}
 use borrow.Author.Tests.{eq-eqb, ne-eqb}
 use Rattle.packed.proofs.Laws.{field-lt}
-use Rattle.plan.specs.Faults.{fileFault}
+use Rattle.plan.specs.Parts.{fileFault}
 use Rattle.plan.proofs.Refusals.{stops, passes}
 use Rattle.plan.proofs.Places.{bits-lack, bits-there}
 use Rattle.plan.proofs.file.file_fault.Statement.{statement}
