@@ -49,6 +49,10 @@ place-mono s i (suc k) h = go (place-mono s i k) (eq-or-lt-of-le h)
     go f (inl e) = rw e (le-refl _)
     go f (inr l) = let before : place s i ≤ place s k = f (le-of-suc-le-suc l) in omega arith
 
+pub place-long : (s : List ℕ) (k : ℕ) → place s k ≤ bitsIn s → 0 < length s
+unfolding place
+place-long s k h = omega (arith, place-mono s 0 k (omega arith))
+
 pub place-end : (s : List ℕ) (i k : ℕ) → i < k → place s i + 2 + operandWidth (kindAt s (place s i)) ≤ place s k
 place-end s i k h = rw (← place-next s i) (place-mono s (i + 1) k (omega arith))
 

@@ -4,11 +4,13 @@ ghost use mathlib.Core.Path.{_≡_};
 ghost use Prim.Native.Nat.{_≤_, _<_};
 ghost use lib.ListN.{length};
 ghost use Rattle.packed.specs.Field.{bitsIn};
-ghost use Rattle.plan.specs.File.{operatorCount, place};
+ghost use Rattle.plan.specs.File.{operatorCount, place, checkFault, checkAnswer};
 ghost use Rattle.plan.specs.Answer.{operatorIs, planStruct, operatorIn};
 
 mod file;
 mod rules;
+
+use query::Query;
 
 pub enum Operator {
     Scan(usize),
@@ -21,6 +23,12 @@ pub struct Plan {
     pub operators: usize,
     pub kinds: [u32; Plan::MAX_OPERATORS],
     pub operands: [u32; Plan::MAX_OPERATORS],
+}
+
+// What Check plan answers: the operator count, or a refusal with 0.
+pub struct CheckedPlan {
+    pub refusal: u32,
+    pub operators: usize,
 }
 
 impl Plan {
@@ -67,5 +75,38 @@ impl Plan {
             return Operator::Extend(operand);
         }
         Operator::Join
+    }
+}
+
+// Check plan's refusal: the query's, then 12, 14, 13, then by the rules 15, 16, 17, 15, 18; or 0.
+pub fn check_fault(query: &[u8], plan: &[u8]) -> u32
+    ensures { λ r. ⌜ r ≡ checkFault (now (query .entry)) (now (plan .entry)) ⌝ }
+{
+    let fault = query::query_fault(query);
+    if fault != 0 {
+        return fault;
+    }
+    let q = Query::of_file(query);
+    let fault = file::file_fault(plan, q.vertices, q.edges);
+    if fault != 0 {
+        return fault;
+    }
+    rules::rules_fault(q, Plan::of_file(plan))
+}
+
+// Check plan.
+pub fn check_plan(query: &[u8], plan: &[u8]) -> CheckedPlan
+    ensures { λ r. ⌜ r ≡ checkAnswer (now (query .entry)) (now (plan .entry)) ⌝ }
+{
+    let refusal = check_fault(query, plan);
+    if refusal != 0 {
+        return CheckedPlan {
+            refusal,
+            operators: 0,
+        };
+    }
+    CheckedPlan {
+        refusal: 0,
+        operators: file::operator_count(plan),
     }
 }

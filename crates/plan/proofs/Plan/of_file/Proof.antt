@@ -7,9 +7,9 @@ use borrow.Author.Needs.{needs}
 use lib.Dec.{lit≤}
 use Rattle.packed.specs.Field.{bitsIn}
 use Rattle.packed.proofs.Laws.{field-lt}
-use Rattle.plan.specs.File.{operatorCount, kindAt, operandWidth, place}
+use Rattle.plan.specs.File.{kindAt, operandWidth}
 use Rattle.plan.specs.Answer.{maxOperators}
-use Rattle.plan.proofs.Places.{place-mono}
+use Rattle.plan.proofs.Places.{place-long}
 use Rattle.plan.proofs.Structs.{Copied, copied-none, copied-there, copied-more, copied-all}
 use Rattle.plan.proofs.Plan.of_file.Statement.{statement}
 use Rattle.plan.proofs.Plan.of_file.Tie as tie
@@ -31,9 +31,7 @@ bits c =
     copied-there _ (c .before .loop .inv .1) (rw (c .before .before .operator-count .ensures) at (c .loop-test .taken)) (c .before .before .before .before .pre)
 
 operator-count-requires : tie.Need-operator-count-requires Inv-loop μ-loop
-unfolding place
-operator-count-requires c κs =
-    omega (arith, place-mono (now (c .before .args .file)) 0 (operatorCount (now (c .before .args .file))) (omega arith), c .before .pre)
+operator-count-requires c κs = place-long _ _ (c .before .pre)
 
 loop-holds : tie.Need-loop-holds Inv-loop μ-loop
 loop-holds c = (omega arith, copied-none _)
