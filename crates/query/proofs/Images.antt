@@ -42,14 +42,17 @@ module _ {A : Type 0} where
       (λ i h. getD-image (λ (j : ℕ). getD xs j d) (length xs) i d (rw length-image at h))
 
 -- One number more in an array of k.
-pub padded-step : (f : ℕ → ℕ) (k n v : ℕ) (a : List ℕ) → n < k → v ≡ f n → a ≡ padded k (map f (range n))
-    → set a n v ≡ padded k (map f (range (n + 1)))
+pub padded-set : (f : ℕ → ℕ) (k n : ℕ) → n < k → set (padded k (map f (range n))) n (f n) ≡ padded k (map f (range (n + 1)))
 unfolding padded
-padded-step f k n v a h e r =
+padded-set f k n h =
     let more : k - length (map f (range n)) ≡ suc (k - suc n) = rw length-image (omega arith) in
     let rest : k - length (map f (range (suc n))) ≡ k - suc n = rw length-image refl in
-    rw (r, e, add-one, more, rest, image-suc f n, append-snoc)
+    rw (add-one, more, rest, image-suc f n, append-snoc)
     (set-at (map f (range n)) 0 (replicate (k - suc n) 0) (f n) n (length-image f n))
+
+pub padded-step : (f : ℕ → ℕ) (k n v : ℕ) (a : List ℕ) → n < k → v ≡ f n → a ≡ padded k (map f (range n))
+    → set a n v ≡ padded k (map f (range (n + 1)))
+padded-step f k n v a h e r = rw (r, e) (padded-set f k n h)
 
 -- What is in an array.
 pub getD-padded : (k : ℕ) (xs : List ℕ) (i : ℕ) → i < length xs → getD (padded k xs) i 0 ≡ getD xs i 0
