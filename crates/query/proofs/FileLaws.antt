@@ -16,6 +16,8 @@ use Rattle.packed.proofs.Laws.{field-add, field-lt}
 use Rattle.query.specs.Query.{connected}
 use Rattle.query.specs.File.{vertexCount, edgeCount, edgeStart, edgeIn, queryOf, outsideLimits, key, edgeFault, queryFault}
 use Rattle.query.specs.Parts.{sizeFault, edgeFrom, keyFault, edgesFault, fileFault, Readable}
+use Rattle.query.specs.Answer.{structOf, Held}
+use Rattle.query.proofs.Structs.{held}
 use Rattle.query.proofs.Refusals.{first-some, first-one, first-group, first-after, first-stop, first-next}
 
 -- The three fields of an edge, read as one, are its key.
@@ -123,3 +125,7 @@ file-readable s e =
 
 pub query-readable : (s : List ℕ) → queryFault s ≡ 0 → Readable s
 query-readable s e = file-readable s (first-head (fileFault s) _ (sym (query-parts s) ∙ e))
+
+-- An accepted file's query is one that the code's functions take.
+pub query-held : (s : List ℕ) → queryFault s ≡ 0 → Held (structOf (queryOf s))
+query-held s e = held s (query-readable s e .limits)

@@ -146,7 +146,4 @@ mask-all k m n S h ms =
     iff (all S (range n)) (eqb m 0)
     (λ e. eq-eqb m 0 (mask-empty k m h (λ w. ms w ∙ fails (ltb w n && not (S w)) (λ b.
     clash (all-at S n e w (ltb-true w n (and-l (ltb w n) (not (S w)) b))) (not-true (S w) (and-r (ltb w n) (not (S w)) b))))))
-    (λ e. all-range S n (λ w l. present (S w) (sym (rw (lt-ltb w n l) at (ms w)) ∙ ap (λ (x : ℕ). inMask x w) (eqb-true m 0 e) ∙ in-none w)))
-  where
-    present : (b : Bool) → not b ≡ false → b ≡ true
-    present = not-false
+    (λ e. all-range S n (λ w l. not-false (S w) (sym (rw (lt-ltb w n l) at (ms w)) ∙ ap (λ (x : ℕ). inMask x w) (eqb-true m 0 e) ∙ in-none w)))
