@@ -6,3 +6,4 @@ pub mod Demand
 pub mod Pairs
 pub mod Laid
 pub mod Turns
+pub mod Bounds
