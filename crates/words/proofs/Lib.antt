@@ -1,0 +1,2 @@
+-- Laws of copying word by word.
+pub mod Copying
