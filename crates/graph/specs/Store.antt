@@ -25,8 +25,16 @@ storeOf g =
     ++ entries backward g
 
 -- '3N + 2M + 4 of them used.'
+abbrev pub usedWords : ℕ → ℕ → ℕ
+usedWords n m = 3 * n + 2 * m + 4
+
 abbrev pub storeSize : Graph → ℕ
-storeSize g = 3 * g .vertices + 2 * length (g .edges) + 4
+storeSize g = usedWords (g .vertices) (length (g .edges))
+
+-- Where the offsets of a direction begin in a store of n vertices and m edges.
+abbrev pub sideAt : Direction → ℕ → ℕ → ℕ
+sideAt forward n m = 2 + n
+sideAt backward n m = 3 + 2 * n + m
 
 -- Load: the graph file's refusals, then '5 store too small'.
 unfoldable pub loadFault : List ℕ → ℕ → ℕ

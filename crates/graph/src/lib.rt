@@ -1,1 +1,60 @@
-// The graph: specs/ has its file and its store.
+// The graph: `specs/` has its file and its store.
+ghost use mathlib.Core.Path.{_≡_};
+ghost use Prim.Native.Nat.{_≤_};
+ghost use lib.ListN.{length, getD};
+ghost use Rattle.graph.specs.Graph.{forward, backward};
+ghost use Rattle.graph.specs.Store.{sideAt, usedWords};
+
+// The counts of a graph, and where its words lie in a store. A side is N + 1 offsets followed by M entries; the forward side
+// has the targets of each source, the backward side the sources of each target.
+pub struct Graph {
+    pub vertices: usize,
+    pub edges: usize,
+}
+
+impl Graph {
+    pub const MAX_VERTICES: usize = 65535;
+
+    pub const MAX_EDGES: usize = 1048575;
+    // The position of the labels.
+    pub const LABELS: usize = 2;
+    // An entry is label × SPAN + neighbour.
+    pub const SPAN: u32 = 65536;
+    // Entries are below this.
+    pub const ENTRY_END: u32 = 16777216;
+
+    // The counts that a store names in its first two words.
+    pub fn of_store(store: &[u32]) -> Self
+        requires { ⌜ 2 ≤ length (now store) ⌝ }
+        ensures { λ r. ⌜ (r .vertices ≡ getD (now (store .entry)) 0 0) × (r .edges ≡ getD (now (store .entry)) 1 0) ⌝ }
+    {
+        Graph {
+            vertices: store[0] as usize,
+            edges: store[1] as usize,
+        }
+    }
+
+    // The position of the forward side.
+    pub fn forward(self) -> usize
+        requires { ⌜ self .vertices ≤ 4294967295 ⌝ }
+        ensures { λ r. ⌜ r ≡ sideAt forward (self .vertices) (self .edges) ⌝ }
+    {
+        2 + self.vertices
+    }
+
+    // The position of the backward side.
+    pub fn backward(self) -> usize
+        requires { ⌜ (self .vertices ≤ 4294967295) × (self .edges ≤ 4294967295) ⌝ }
+        ensures { λ r. ⌜ r ≡ sideAt backward (self .vertices) (self .edges) ⌝ }
+    {
+        3 + 2 * self.vertices + self.edges
+    }
+
+    // The words that are used.
+    pub fn words(self) -> usize
+        requires { ⌜ (self .vertices ≤ 4294967295) × (self .edges ≤ 4294967295) ⌝ }
+        ensures { λ r. ⌜ r ≡ usedWords (self .vertices) (self .edges) ⌝ }
+    {
+        4 + 3 * self.vertices + 2 * self.edges
+    }
+}

@@ -1,16 +1,16 @@
 -- Laws of `all`, `any`, `keep` and `range`. Assumes nothing.
-use mathlib.Core.Path.{_≡_, refl, sym, _∙_, ap, ap₂, subst}
+use mathlib.Core.Path.{_≡_, refl, sym, _∙_, ap, ap₂, fun-ext, subst}
 use mathlib.Core.Logic.{_⊎_, inl, inr}
 use mathlib.Core.Bool.{Bool, true, false, cond, _&&_, _||_, and-assoc, and-true}
-use mathlib.Core.List.{List, [], _∷_, _++_, map, append-nil, List·Memᴰ, List·Memᴰ·head, List·Memᴰ·tail}
-use Prim.Native.Nat.{ℕ, zero, suc, _+_, _≤_, _<_}
-use native.Mathlib.Nat.{eq-or-lt-of-le, le-of-suc-le-suc, not-suc-le-zero, lt-suc-self, le-suc, lt-of-lt-of-le}
+use mathlib.Core.List.{List, [], _∷_, _++_, map, map-append, List·Memᴰ, List·Memᴰ·head, List·Memᴰ·tail}
+use Prim.Native.Nat.{ℕ, zero, suc, suc-le-suc, _+_, _≤_, _<_}
+use native.Mathlib.Nat.{eq-or-lt-of-le, le-of-suc-le-suc, not-suc-le-zero, zero-lt-suc}
 use native.Mathlib.Omega.{arith}
 use native.Mathlib.Numerals.{add-one}
 use lib.Dec.{eqb}
 use borrow.Author.Tests.{eqb-true}
-use lib.ListN.{length, getD, length-append}
-use lib.Seq.{getD-append-seam}
+use lib.ListN.{length, getD, take, length-append}
+use lib.Seq.{getD-append-seam, take-suc}
 use lib.ListN.{List·getD-append}
 use Rattle.lists.specs.Lists.{_⇒_, range, all, any, keep}
 use Rattle.lists.proofs.Tests.{clash, iff, and-l, and-r, and-both, or-intro-l, or-intro-r, imp-use, imp-intro, eqb-refl}
@@ -56,6 +56,17 @@ module _ {A : Type 0} where
       iff (all p xs) (all r xs)
       (λ e. all-mem r xs (λ x m. sym (h x m) ∙ mem-all p m e)) (λ e. all-mem p xs (λ x m. h x m ∙ mem-all r m e))
 
+  pub all-getD : (p : A → Bool) (xs : List A) (i : ℕ) (d : A) → i < length xs → all p xs ≡ true → p (getD xs i d) ≡ true
+  unfolding all
+  all-getD p [] i d h e = absurd (not-suc-le-zero h)
+  all-getD p (x ∷ xs) zero d h e = and-l (p x) (all p xs) e
+  all-getD p (x ∷ xs) (suc i) d h e = all-getD p xs i d (le-of-suc-le-suc h) (and-r (p x) (all p xs) e)
+
+  pub getD-all : (p : A → Bool) (xs : List A) (d : A) → ((i : ℕ) → i < length xs → p (getD xs i d) ≡ true) → all p xs ≡ true
+  unfolding all
+  getD-all p [] d h = refl
+  getD-all p (x ∷ xs) d h = and-both (p x) (all p xs) (h 0 (zero-lt-suc (length xs))) (getD-all p xs d (λ i l. h (suc i) (suc-le-suc l)))
+
   pub all-and : (p r : A → Bool) (xs : List A) → all (λ x. p x && r x) xs ≡ (all p xs && all r xs)
   unfolding all
   all-and p r [] = refl
@@ -87,6 +98,15 @@ module _ {A : Type 0} where
           → cond b (x ∷ keep p (xs ++ ys)) (keep p (xs ++ ys)) ≡ cond b (x ∷ keep p xs) (keep p xs) ++ keep p ys
       go true e = ap (λ (l : List A). x ∷ l) e
       go false e = e
+
+  pub keep-ext : (p r : A → Bool) (xs : List A) → ((x : A) → p x ≡ r x) → keep p xs ≡ keep r xs
+  keep-ext p r xs h = ap (λ (t : A → Bool). keep t xs) (fun-ext h)
+
+  pub keep-all : (p : A → Bool) (xs : List A) → all p xs ≡ true → keep p xs ≡ xs
+  unfolding all keep
+  keep-all p [] e = refl
+  keep-all p (x ∷ xs) e =
+      ap₂ (λ (b : Bool) (l : List A). cond b (x ∷ l) l) (and-l (p x) (all p xs) e) (keep-all p xs (and-r (p x) (all p xs) e))
 
   pub keep-keep : (p r : A → Bool) (xs : List A) → keep p (keep r xs) ≡ keep (λ x. r x && p x) xs
   unfolding keep
@@ -128,6 +148,15 @@ getD-range (suc n) i h = go (getD-range n i) (eq-or-lt-of-le (le-of-suc-le-suc h
         subst (λ (k : ℕ). getD (range n ++ (n ∷ [])) k 0 ≡ i) (length-range n ∙ sym e)
         (getD-append-seam (range n) n [] 0 ∙ sym e)
     go f (inr l) = List·getD-append (range n) (n ∷ []) 0 i (rw length-range l) ∙ f l
+
+-- A list by its elements in turn.
+pub map-getD : (a : List ℕ) (n : ℕ) → n ≤ length a → map (λ (i : ℕ). getD a i 0) (range n) ≡ take n a
+unfolding range
+map-getD a zero h = refl
+map-getD a (suc n) h =
+    map-append (λ (i : ℕ). getD a i 0) (range n) (n ∷ [])
+    ∙ ap (λ (l : List ℕ). l ++ (getD a n 0 ∷ [])) (map-getD a n (omega arith))
+    ∙ sym (take-suc a n 0 h)
 
 -- A test passes of the numbers below n exactly where it passes of each.
 pub all-range : (p : ℕ → Bool) (n : ℕ) → ((k : ℕ) → k < n → p k ≡ true) → all p (range n) ≡ true

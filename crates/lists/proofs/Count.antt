@@ -1,7 +1,7 @@
 -- Laws of `count` and `total`. Assumes nothing.
 use mathlib.Core.Path.{_≡_, refl, sym, _∙_, ap, ap₂, fun-ext}
 use mathlib.Core.Bool.{Bool, true, false, cond, _&&_, and-true, and-false}
-use mathlib.Core.List.{List, [], _∷_, _++_, map, flatMap}
+use mathlib.Core.List.{List, [], _∷_, _++_, map, flatMap, List·Memᴰ, List·Memᴰ·head, List·Memᴰ·tail}
 use Prim.Native.Nat.{ℕ, zero, suc, _+_, _≤_, _<_}
 use native.Mathlib.Nat.{zero-add, add-zero, add-assoc, add-left-comm, add-comm}
 use native.Mathlib.Numerals.{add-one}
@@ -49,6 +49,11 @@ module _ {A : Type 0} where
   count-const p false [] = refl
   count-const p true (x ∷ xs) = ap₂ (λ (c : Bool) (n : ℕ). bit c + n) (and-true (p x)) (count-const p true xs)
   count-const p false (x ∷ xs) = ap₂ (λ (c : Bool) (n : ℕ). bit c + n) (and-false (p x)) (count-const p false xs)
+
+  pub mem-count : (p : A → Bool) {x : A} {xs : List A} → List·Memᴰ x xs → p x ≡ true → 0 < count p xs
+  unfolding count
+  mem-count p {xs = y ∷ ys} (List·Memᴰ·head e) h = rw (sym (ap p e) ∙ h) (omega arith)
+  mem-count p {xs = y ∷ ys} (List·Memᴰ·tail m) h = let ih : 0 < count p ys = mem-count p m h in omega arith
 
   pub count-le : (p : A → Bool) (xs : List A) → count p xs ≤ length xs
   unfolding count

@@ -41,6 +41,10 @@ pub first-cons : (k : ℕ) (ks : List ℕ) → k ≡ 0 → first (k ∷ ks) ≡ 
 unfolding first
 first-cons k ks e = rw (eq-eqb k 0 e) refl
 
+pub first-nil : first [] ≡ 0
+unfolding first
+first-nil = refl
+
 pub first-append-l : (js ks : List ℕ) → first (js ++ ks) ≡ 0 → first js ≡ 0
 unfolding first
 first-append-l [] ks e = refl

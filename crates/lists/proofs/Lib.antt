@@ -4,3 +4,5 @@ pub mod All
 pub mod Count
 pub mod Same
 pub mod Faults
+pub mod Parts
+pub mod Sort

@@ -43,6 +43,12 @@ and-turn true false false = refl
 and-turn false b true = refl
 and-turn false b false = refl
 
+pub and-left-comm : (a b c : Bool) → (a && (b && c)) ≡ (b && (a && c))
+and-left-comm true true c = refl
+and-left-comm true false c = refl
+and-left-comm false true c = refl
+and-left-comm false false c = refl
+
 pub imp-use : (a b : Bool) → (a ⇒ b) ≡ true → a ≡ true → b ≡ true
 imp-use true b e p = e
 imp-use false b e p = clash p refl
@@ -66,6 +72,14 @@ or-elim false b e f g = g e
 pub or-false : (a b : Bool) → a ≡ false → b ≡ false → (a || b) ≡ false
 or-false true b p q = p
 or-false false b p q = q
+
+pub or-false-l : (a b : Bool) → (a || b) ≡ false → a ≡ false
+or-false-l true b e = e
+or-false-l false b e = refl
+
+pub or-false-r : (a b : Bool) → (a || b) ≡ false → b ≡ false
+or-false-r true b e = clash refl e
+or-false-r false b e = e
 
 pub not-true : (a : Bool) → not a ≡ true → a ≡ false
 not-true true e = clash e refl

@@ -1,3 +1,4 @@
 -- Laws of rows and of matches.
 pub mod Rows
 pub mod Cuts
+pub mod Tuples

@@ -1,3 +1,4 @@
+pub mod Joinable
 -- Laws of the plan: its file, its struct, the sets that its results cover, and the answers.
 pub mod Refusals
 pub mod Indices

@@ -1,3 +1,5 @@
 -- Run: a whole plan over the pile, its need, its refusals, and what it leaves in the match list and the scratch.
 pub mod Pile
 pub mod Run
+pub mod Complete
+pub mod Scratch

@@ -1,0 +1,78 @@
+-- Laws of `map` and `flatMap` with `take`, `drop`, `keep`, `range` and an index. Assumes nothing.
+use mathlib.Core.Path.{_≡_, refl, sym, _∙_, ap, ap₂}
+use mathlib.Core.Bool.{Bool, true, false, cond}
+use mathlib.Core.List.{List, [], _∷_, _++_, map, flatMap, append-assoc, append-nil}
+use Prim.Native.Nat.{ℕ, zero, suc, _<_}
+use native.Mathlib.Omega.{arith}
+use lib.ListN.{length, getD, take, drop, length-map}
+use lib.Seq.{ext-getD}
+use Rattle.lists.specs.Lists.{range, all, keep, ascending}
+use Rattle.lists.proofs.Tests.{and-l, and-r}
+use Rattle.lists.proofs.All.{length-range, getD-range}
+use Rattle.lists.proofs.Sort.{at-ascending, ascending-at}
+use Rattle.packed.proofs.Encoded.{getD-image}
+
+module _ {A B : Type 0} where
+  pub take-map : (f : A → B) (n : ℕ) (xs : List A) → take n (map f xs) ≡ map f (take n xs)
+  take-map f zero [] = refl
+  take-map f zero (x ∷ xs) = refl
+  take-map f (suc n) [] = refl
+  take-map f (suc n) (x ∷ xs) = ap (λ (l : List B). f x ∷ l) (take-map f n xs)
+
+  pub drop-map : (f : A → B) (n : ℕ) (xs : List A) → drop n (map f xs) ≡ map f (drop n xs)
+  drop-map f zero [] = refl
+  drop-map f zero (x ∷ xs) = refl
+  drop-map f (suc n) [] = refl
+  drop-map f (suc n) (x ∷ xs) = drop-map f n xs
+
+  pub keep-map : (p : B → Bool) (f : A → B) (xs : List A) → keep p (map f xs) ≡ map f (keep (λ x. p (f x)) xs)
+  unfolding keep
+  keep-map p f [] = refl
+  keep-map p f (x ∷ xs) = go (p (f x)) (keep-map p f xs)
+    where
+      go : (b : Bool) → keep p (map f xs) ≡ map f (keep (λ y. p (f y)) xs)
+          → cond b (f x ∷ keep p (map f xs)) (keep p (map f xs)) ≡ map f (cond b (x ∷ keep (λ y. p (f y)) xs) (keep (λ y. p (f y)) xs))
+      go true e = ap (λ (l : List B). f x ∷ l) e
+      go false e = e
+
+  -- Functions that agree on each element that passes s have the same image of a list of such elements.
+  pub map-under : (s : A → Bool) (f h : A → B) (xs : List A) → all s xs ≡ true → ((x : A) → s x ≡ true → f x ≡ h x) → map f xs ≡ map h xs
+  unfolding all
+  map-under s f h [] e k = refl
+  map-under s f h (x ∷ xs) e k =
+      ap₂ (λ (y : B) (l : List B). y ∷ l) (k x (and-l (s x) (all s xs) e)) (map-under s f h xs (and-r (s x) (all s xs) e) k)
+
+  pub flatMap-append : (f : A → List B) (xs ys : List A) → flatMap f (xs ++ ys) ≡ flatMap f xs ++ flatMap f ys
+  unfolding flatMap
+  flatMap-append f [] ys = refl
+  flatMap-append f (x ∷ xs) ys =
+      ap (λ (l : List B). f x ++ l) (flatMap-append f xs ys) ∙ sym (append-assoc (f x) (flatMap f xs) (flatMap f ys))
+
+module _ {B : Type 0} where
+  pub getD-map-range : (f : ℕ → B) (n i : ℕ) (b : B) → i < n → getD (map f (range n)) i b ≡ f i
+  getD-map-range f n i b h = getD-image f (range n) i 0 b (rw length-range h) ∙ ap f (getD-range n i h)
+
+  -- A list is the image of its indices.
+  pub map-indices : (f : ℕ → B) (xs : List B) (b : B) → ((i : ℕ) → i < length xs → f i ≡ getD xs i b) → map f (range (length xs)) ≡ xs
+  map-indices f xs b h =
+      ext-getD b (map f (range (length xs))) xs (length-map (range (length xs)) f ∙ length-range (length xs))
+      (λ i l.
+      let m : i < length xs = rw (length-map, length-range) at l in
+      getD-map-range f (length xs) i b m ∙ h i m)
+
+  pub flatMap-suc : (f : ℕ → List B) (n : ℕ) → flatMap f (range (suc n)) ≡ flatMap f (range n) ++ f n
+  unfolding range flatMap
+  flatMap-suc f n = flatMap-append f (range n) (n ∷ []) ∙ ap (λ (l : List B). flatMap f (range n) ++ l) (append-nil (f n))
+
+-- The image of the numbers below n ascends where the function rises at each step.
+pub ascending-image : (f : ℕ → ℕ) (n : ℕ) → ((i : ℕ) → suc i < n → f i < f (suc i)) → ascending (map f (range n)) ≡ true
+ascending-image f n h =
+    at-ascending (map f (range n))
+    (λ i l.
+    let m : suc i < n = rw (length-map, length-range) at l in
+    rw (getD-map-range f n i 0 (omega arith), getD-map-range f n (suc i) 0 m) (h i m))
+
+pub image-ascending : (f : ℕ → ℕ) (n : ℕ) → ascending (map f (range n)) ≡ true → (i : ℕ) → suc i < n → f i < f (suc i)
+image-ascending f n e i h =
+    rw (getD-map-range f n i 0 (omega arith), getD-map-range f n (suc i) 0 h) at
+    (ascending-at (map f (range n)) e i (rw (length-map, length-range) h))

@@ -1,0 +1,23 @@
+-- Laws of parts of a list, `take` and `drop`, beyond the library's. Assumes nothing.
+use mathlib.Core.Path.{_≡_, refl, sym, _∙_, ap}
+use mathlib.Core.List.{List, [], _∷_}
+use Prim.Native.Nat.{ℕ, zero, suc, _+_, _-_, _≤_}
+use native.Mathlib.Nat.{sub-zero, suc-sub-suc, zero-sub}
+use lib.ListN.{take, drop}
+use lib.Seq.{take-nil, drop-nil, take-take}
+
+module _ {A : Type 0} where
+  pub drop-take : (n k : ℕ) (l : List A) → drop n (take k l) ≡ take (k - n) (drop n l)
+  drop-take zero k l = ap (λ (m : ℕ). take m l) (sym (sub-zero k))
+  drop-take (suc n) zero l = ap (λ (m : ℕ). take m (drop (suc n) l)) (sym (zero-sub (suc n)))
+  drop-take (suc n) (suc k) [] = sym (take-nil (suc k - suc n))
+  drop-take (suc n) (suc k) (x ∷ l) = drop-take n k l ∙ ap (λ (m : ℕ). take m (drop n l)) (sym (suc-sub-suc k n))
+
+  -- Lists that agree on their first k elements agree on any part of those.
+  pub take-part : (n j k : ℕ) (s t : List A) → n + j ≤ k → take k s ≡ take k t → take j (drop n s) ≡ take j (drop n t)
+  take-part n j k s t h e =
+      sym (take-take j (k - n) (drop n s) (fits n j k h)) ∙ ap (take j) (sym (drop-take n k s) ∙ ap (drop n) e ∙ drop-take n k t)
+      ∙ take-take j (k - n) (drop n t) (fits n j k h)
+    where
+      fits : (n j k : ℕ) → n + j ≤ k → j ≤ k - n
+      fits n j k h = omega native.Mathlib.Omega.arith

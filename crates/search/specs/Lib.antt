@@ -1,0 +1,2 @@
+-- Where a word stands in an ascending list of words.
+pub mod Search

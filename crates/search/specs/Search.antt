@@ -1,0 +1,15 @@
+-- Searching a list of words. Assumes nothing.
+use mathlib.Core.List.{List}
+use Prim.Native.Nat.{ℕ, _+_}
+use lib.Dec.{ltb}
+use lib.ListN.{drop}
+use Rattle.lists.specs.Lists.{count}
+
+-- How many words are below x.
+unfoldable pub below : ℕ → List ℕ → ℕ
+below x s = count (λ (w : ℕ). ltb w x) s
+
+-- The first index from `from` on whose word is not below x. In an ascending list the words below x come first, so that it is `from`
+-- and one more for each of them from there on.
+unfoldable pub firstFrom : List ℕ → ℕ → ℕ → ℕ
+firstFrom s from x = from + below x (drop from s)

@@ -1,0 +1,73 @@
+//! `pack FILE [DIR]`: from a text to the packed files.
+
+use std::fs;
+use std::path::Path;
+use std::process::ExitCode;
+
+use pack::cli::{run, tell};
+use pack::hang::Hang;
+use pack::text::parse;
+
+const HELP: &str = "\
+usage: pack FILE [DIR], or pack --help
+
+Packs the text FILE into g.bin, q.bin and p.bin in DIR, by default the folder of FILE.
+The text has up to three sections; the file of a section that is missing is left as it is.
+
+    # A comment runs to the end of its line.
+    [graph]
+    vertices 2 label 3      # two vertices of label 3, numbers 0 and 1
+    vertices 4              # four more of label 0, unlabelled
+    vertex pin label 7      # one with a name, number 6
+    0 -5-> pin              # an edge of label 5; its ends are numbers or names
+    [query]                 # written like the graph; vertex label 0 fits every vertex
+    vertex a
+    vertex b label 7
+    vertex c
+    a -5-> b
+    c -5-> b
+    [plan]                  # of the [query] in the same text
+    scan a -5-> b           # a query edge, or its index in ascending order: scan 0
+    extend c
+    # join                  # of the last two results: the earlier is build, the later probe
+
+Vertices are numbered from 0 in the order of their lines, and are declared above their edges.
+Edges stand in any order; pack sorts them, a graph's by source, label and target, a query's by
+source, target and label.
+
+    vertices   graph 0 to 65535, query 2 to 8; label 0 to 65535
+    edges      graph 0 to 1048575, query 1 to 24; label 1 to 255; none twice; in a query none
+               from a vertex to itself
+    operators  1 to 31
+
+A text that breaks these rules is not packed: pack writes FILE:LINE: and the reason, and leaves
+all files as they are. What the engine will refuse although the files are well formed, an
+unconnected query (11) or a plan that breaks the operators' rules (15 to 18), is packed with a
+warning.
+
+Exit status: 0 packed, 1 not packed, 2 bad usage.
+";
+
+fn main() -> ExitCode {
+    run(HELP, |arguments| match arguments {
+        [file] => Some(pack(file, file.parent().unwrap_or(Path::new("")))),
+        [file, dir] => Some(pack(file, dir)),
+        _ => None,
+    })
+}
+
+fn pack(file: &Path, dir: &Path) -> Result<String, String> {
+    let name = file.display();
+    let text = fs::read(file).map_err(|e| format!("{name}: {e}"))?;
+    let parsed = parse(&text).map_err(|n| format!("{name}:{}: {}", n.line, n.reason))?;
+    if let Some(n) = &parsed.warning {
+        tell(&format!("{name}:{}: warning: {}", n.line, n.reason));
+    }
+    for (name, bytes) in Hang::FILES.iter().zip(parsed.hang.to_files()) {
+        if let Some(bytes) = bytes {
+            let path = dir.join(name);
+            fs::write(&path, bytes).map_err(|e| format!("{}: {e}", path.display()))?;
+        }
+    }
+    Ok(String::new())
+}

@@ -1,0 +1,151 @@
+//! The vertices and edges of a `[graph]` or `[query]` section.
+
+use std::collections::HashMap;
+use std::iter::repeat;
+use std::ops::RangeInclusive;
+
+use crate::edge::{Edge, Limits, EDGE_LABELS, VERTEX_LABELS};
+use crate::text::{Note, Section};
+
+/// A section as far as it was read: vertices in the order of their lines, edges in any order.
+#[derive(Default)]
+pub struct Drawing {
+    pub labels: Vec<u32>,
+    pub edges: Vec<Edge>,
+    names: HashMap<String, u32>,
+    /// The line of each edge.
+    lines: HashMap<Edge, usize>,
+}
+
+impl Drawing {
+    pub fn read(section: &Section, limits: &Limits) -> Result<Self, Note> {
+        let mut drawing = Drawing::default();
+        for (line, words) in &section.lines {
+            drawing
+                .add(*line, words, limits)
+                .map_err(|reason| Note::new(*line, reason))?;
+        }
+        for (what, count, least) in [
+            ("vertices", drawing.labels.len(), *limits.vertices.start()),
+            ("edges", drawing.edges.len(), *limits.edges.start()),
+        ] {
+            if count < least {
+                let reason = format!("too few {what}: {count}, at least {least}");
+                return Err(Note::new(section.line, reason));
+            }
+        }
+        Ok(drawing)
+    }
+
+    /// Adds what a line declares.
+    fn add(&mut self, line: usize, words: &[&str], limits: &Limits) -> Result<(), String> {
+        let labelled = |label| number("vertex label", label, VERTEX_LABELS);
+        let counted = |count| number("count", count, 0..=u32::MAX);
+        match *words {
+            ["vertex", name] => self.add_vertex(name, 0, limits),
+            ["vertex", name, "label", l] => self.add_vertex(name, labelled(l)?, limits),
+            ["vertices", count] => self.add_vertices(counted(count)?, 0, limits),
+            ["vertices", count, "label", l] => {
+                self.add_vertices(counted(count)?, labelled(l)?, limits)
+            }
+            [source, arrow, target] if is_arrow(arrow) => {
+                let edge = self.edge(source, arrow, target)?;
+                self.add_edge(line, edge, limits)
+            }
+            _ => Err(EXPECTED.into()),
+        }
+    }
+
+    fn add_vertex(&mut self, name: &str, label: u32, limits: &Limits) -> Result<(), String> {
+        check_name(name)?;
+        let number = self.labels.len() as u32;
+        if let Some(first) = self.names.insert(name.into(), number) {
+            return Err(format!("'{name}' is the name of vertex {first} already"));
+        }
+        self.add_vertices(1, label, limits)
+    }
+
+    fn add_vertices(&mut self, count: u32, label: u32, limits: &Limits) -> Result<(), String> {
+        let most = *limits.vertices.end();
+        if count as usize > most - self.labels.len() {
+            return Err(format!("more than {most} vertices"));
+        }
+        self.labels.extend(repeat(label).take(count as usize));
+        Ok(())
+    }
+
+    fn add_edge(&mut self, line: usize, edge: Edge, limits: &Limits) -> Result<(), String> {
+        let most = *limits.edges.end();
+        if edge.source == edge.target && !limits.loops {
+            return Err("a query edge joins two different vertices".into());
+        }
+        if let Some(first) = self.lines.insert(edge, line) {
+            return Err(format!("the edge stands at line {first} already"));
+        }
+        if self.edges.len() == most {
+            return Err(format!("more than {most} edges"));
+        }
+        self.edges.push(edge);
+        Ok(())
+    }
+
+    /// The edge that three words name.
+    pub fn edge(&self, source: &str, arrow: &str, target: &str) -> Result<Edge, String> {
+        let label = arrow.strip_prefix('-').and_then(|a| a.strip_suffix("->"));
+        let label = label.ok_or_else(|| format!("'{arrow}' is no arrow -LABEL->"))?;
+        Ok(Edge {
+            source: self.vertex(source)?,
+            label: number("edge label", label, EDGE_LABELS)?,
+            target: self.vertex(target)?,
+        })
+    }
+
+    /// The vertex that a word names or is the number of.
+    pub fn vertex(&self, word: &str) -> Result<u32, String> {
+        let vertex = if is_number(word) {
+            word.parse().ok()
+        } else {
+            self.names.get(word).copied()
+        };
+        vertex
+            .filter(|&v| (v as usize) < self.labels.len())
+            .ok_or_else(|| format!("no vertex '{word}' has been declared"))
+    }
+}
+
+const EXPECTED: &str = "expected 'vertex NAME' or 'vertices COUNT', with 'label L' after it or \
+                        without, or an edge 'A -L-> B' with blanks around the arrow";
+
+fn is_arrow(word: &str) -> bool {
+    word.starts_with('-') || word.ends_with('>')
+}
+
+fn is_number(word: &str) -> bool {
+    !word.is_empty() && word.bytes().all(|b| b.is_ascii_digit())
+}
+
+/// A name begins with a letter, so that it is no number, arrow or header.
+fn check_name(name: &str) -> Result<(), String> {
+    let inner = |c: char| c.is_alphanumeric() || c == '_' || c == '-';
+    if !name.starts_with(char::is_alphabetic) || !name.chars().all(inner) {
+        return Err(format!(
+            "'{name}' is no name: a letter, then letters, digits, '_' or '-'"
+        ));
+    }
+    if ["vertex", "vertices"].contains(&name) {
+        return Err(format!("'{name}' is a word of the text form and no name"));
+    }
+    Ok(())
+}
+
+/// The decimal number of a word, within a range.
+pub fn number(what: &str, word: &str, range: RangeInclusive<u32>) -> Result<u32, String> {
+    if !is_number(word) {
+        return Err(format!("{what} '{word}' is no number"));
+    }
+    let value = word.parse().ok().filter(|v| range.contains(v));
+    value.ok_or_else(|| {
+        let (first, last) = (range.start(), range.end());
+        format!("{what} {word} is not within {first} to {last}")
+    })
+}

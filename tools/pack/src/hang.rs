@@ -1,0 +1,94 @@
+//! A graph, a query and a plan together, to their packed files and back, and as text.
+
+use std::fmt;
+
+use crate::edge::{Edge, FileFault};
+use crate::graph::Graph;
+use crate::plan::{Operator, Plan};
+use crate::query::Query;
+
+/// Each may be missing, but a plan has its query.
+#[derive(Clone, Debug, Default, PartialEq, Eq)]
+pub struct Hang {
+    pub graph: Option<Graph>,
+    pub query: Option<Query>,
+    pub plan: Option<Plan>,
+}
+
+impl Hang {
+    /// The files of graph, query and plan.
+    pub const FILES: [&'static str; 3] = ["g.bin", "q.bin", "p.bin"];
+
+    /// The bytes of the files, of those that there are.
+    pub fn to_files(&self) -> [Option<Vec<u8>>; 3] {
+        [
+            self.graph.as_ref().map(Graph::to_bytes),
+            self.query.as_ref().map(Query::to_bytes),
+            self.plan.as_ref().map(Plan::to_bytes),
+        ]
+    }
+
+    /// What the files hold, or a malformed one and its fault.
+    pub fn from_files(files: [Option<Vec<u8>>; 3]) -> Result<Self, (&'static str, FileFault)> {
+        let [g, q, p] = files;
+        let of = |i: usize| move |fault| (Hang::FILES[i], fault);
+        let graph = g.map(|bytes| Graph::from_bytes(&bytes));
+        let graph = graph.transpose().map_err(of(0))?;
+        let query = q.map(|bytes| Query::from_bytes(&bytes));
+        let query = query.transpose().map_err(of(1))?;
+        let plan = p.map(|bytes| match &query {
+            Some(query) => Plan::from_bytes(&bytes, query),
+            None => Err(FileFault::new(6, "there is no q.bin beside it")),
+        });
+        let plan = plan.transpose().map_err(of(2))?;
+        Ok(Hang { graph, query, plan })
+    }
+}
+
+/// The text form, with numbers for names.
+impl fmt::Display for Hang {
+    fn fmt(&self, f: &mut fmt::Formatter) -> fmt::Result {
+        if let Some(graph) = &self.graph {
+            writeln!(f, "[graph]")?;
+            write_drawing(f, &graph.labels, &graph.edges)?;
+        }
+        if let Some(query) = &self.query {
+            writeln!(f, "[query]")?;
+            write_drawing(f, &query.labels, &query.edges)?;
+            if let Some(plan) = &self.plan {
+                writeln!(f, "[plan]")?;
+                write_plan(f, query, plan)?;
+            }
+        }
+        Ok(())
+    }
+}
+
+fn write_drawing(f: &mut fmt::Formatter, labels: &[u32], edges: &[Edge]) -> fmt::Result {
+    let mut first = 0;
+    for run in labels.chunk_by(|a, b| a == b) {
+        let last = first + run.len() - 1;
+        writeln!(
+            f,
+            "vertices {} label {}  # {first} to {last}",
+            run.len(),
+            run[0]
+        )?;
+        first = last + 1;
+    }
+    for edge in edges {
+        writeln!(f, "{edge}")?;
+    }
+    Ok(())
+}
+
+fn write_plan(f: &mut fmt::Formatter, query: &Query, plan: &Plan) -> fmt::Result {
+    for &operator in &plan.operators {
+        match operator {
+            Operator::Scan(i) => writeln!(f, "scan {}", query.edges[i as usize])?,
+            Operator::Extend(vertex) => writeln!(f, "extend {vertex}")?,
+            Operator::Join => writeln!(f, "join")?,
+        }
+    }
+    Ok(())
+}

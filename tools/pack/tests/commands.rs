@@ -1,0 +1,128 @@
+//! The two commands: what they write and their exit status.
+
+use std::fs;
+use std::path::{Path, PathBuf};
+use std::process::{Command, Output};
+
+/// An empty folder of its own for a test.
+fn folder(test: &str) -> PathBuf {
+    let path = Path::new(env!("CARGO_TARGET_TMPDIR")).join(test);
+    let _ = fs::remove_dir_all(&path);
+    fs::create_dir_all(&path).unwrap();
+    path
+}
+
+fn pack(dir: &Path, arguments: &[&str]) -> Output {
+    run(env!("CARGO_BIN_EXE_pack"), dir, arguments)
+}
+
+fn unpack(dir: &Path, arguments: &[&str]) -> Output {
+    run(env!("CARGO_BIN_EXE_unpack"), dir, arguments)
+}
+
+fn run(program: &str, dir: &Path, arguments: &[&str]) -> Output {
+    let mut command = Command::new(program);
+    command.current_dir(dir).args(arguments).output().unwrap()
+}
+
+/// Exit status, standard output and standard error.
+fn told(output: Output) -> (i32, String, String) {
+    let text = |bytes| String::from_utf8(bytes).unwrap();
+    let status = output.status.code().unwrap();
+    (status, text(output.stdout), text(output.stderr))
+}
+
+fn says(status: i32, out: &str, err: &str) -> (i32, String, String) {
+    (status, out.into(), err.into())
+}
+
+const TEXT: &str = "[graph]\nvertices 2 label 7  # 0 to 1\n0 -1-> 1\n\
+                    [query]\nvertices 2 label 0  # 0 to 1\n0 -1-> 1\n\
+                    [plan]\nscan 0 -1-> 1\n";
+
+#[test]
+fn packs_beside_the_text_and_elsewhere() {
+    let dir = folder("packs");
+    fs::create_dir(dir.join("other")).unwrap();
+    fs::write(dir.join("hang.txt"), TEXT).unwrap();
+    assert_eq!(told(pack(&dir, &["hang.txt"])), says(0, "", ""));
+    assert_eq!(told(pack(&dir, &["hang.txt", "other"])), says(0, "", ""));
+    assert_eq!(told(unpack(&dir, &["."])), says(0, TEXT, ""));
+    assert_eq!(told(unpack(&dir, &["other"])), says(0, TEXT, ""));
+}
+
+#[test]
+fn a_missing_section_leaves_its_file() {
+    let dir = folder("section");
+    fs::write(dir.join("hang.txt"), TEXT).unwrap();
+    fs::write(dir.join("empty.txt"), "[graph]\n").unwrap();
+    assert_eq!(told(pack(&dir, &["hang.txt"])), says(0, "", ""));
+    assert_eq!(told(pack(&dir, &["empty.txt"])), says(0, "", ""));
+    let query = TEXT.find("[query]").unwrap();
+    let text = format!("[graph]\n{}", &TEXT[query..]);
+    assert_eq!(told(unpack(&dir, &["."])), says(0, &text, ""));
+}
+
+#[test]
+fn bad_text_has_a_line_and_changes_no_file() {
+    let dir = folder("bad");
+    fs::write(dir.join("hang.txt"), TEXT).unwrap();
+    fs::write(dir.join("bad.txt"), "[graph]\n[query]\nvertices 9\n").unwrap();
+    assert_eq!(told(pack(&dir, &["hang.txt"])), says(0, "", ""));
+    let message = "bad.txt:3: more than 8 vertices\n";
+    assert_eq!(told(pack(&dir, &["bad.txt"])), says(1, "", message));
+    assert_eq!(told(unpack(&dir, &["."])), says(0, TEXT, ""));
+}
+
+#[test]
+fn warnings_pack() {
+    let dir = folder("warnings");
+    let text = "[query]\nvertices 3\n0 -1-> 1\n[plan]\nscan 0\n";
+    fs::write(dir.join("hang.txt"), text).unwrap();
+    let message = "hang.txt:1: warning: the query is not connected; \
+                   the engine will refuse this with 11\n";
+    assert_eq!(told(pack(&dir, &["hang.txt"])), says(0, "", message));
+    assert!(dir.join("q.bin").exists() && dir.join("p.bin").exists());
+}
+
+#[test]
+fn malformed_files_are_named() {
+    let dir = folder("malformed");
+    let none = ".: no g.bin, q.bin or p.bin\n";
+    assert_eq!(told(unpack(&dir, &["."])), says(1, "", none));
+    fs::write(dir.join("p.bin"), [8, 0]).unwrap();
+    let alone = "./p.bin: there is no q.bin beside it (refusal 6)\n";
+    assert_eq!(told(unpack(&dir, &["."])), says(1, "", alone));
+    fs::write(dir.join("g.bin"), [0, 0, 0, 0, 1]).unwrap();
+    let fill = "./g.bin: a fill bit is set (refusal 2)\n";
+    assert_eq!(told(unpack(&dir, &["."])), says(1, "", fill));
+}
+
+#[test]
+fn usage_help_and_unreadable_files() {
+    let dir = folder("usage");
+    for output in [
+        pack(&dir, &[]),
+        pack(&dir, &["a", "b", "c"]),
+        unpack(&dir, &[]),
+    ] {
+        let (status, out, err) = told(output);
+        assert!(status == 2 && out.is_empty() && err.starts_with("usage: "));
+    }
+    for output in [pack(&dir, &["--help"]), unpack(&dir, &["--help"])] {
+        let (status, out, err) = told(output);
+        assert!(status == 0 && out.starts_with("usage: ") && err.is_empty());
+    }
+    let (status, _, err) = told(pack(&dir, &["none.txt"]));
+    assert!(status == 1 && err.starts_with("none.txt: "));
+}
+
+/// The text that `pack --help` shows is one that it packs.
+#[test]
+fn the_help_shows_a_good_text() {
+    let dir = folder("help");
+    let (_, help, _) = told(pack(&dir, &["--help"]));
+    let shown = help.split("\n\n").find(|part| part.contains("[graph]"));
+    fs::write(dir.join("hang.txt"), shown.unwrap()).unwrap();
+    assert_eq!(told(pack(&dir, &["hang.txt"])), says(0, "", ""));
+}

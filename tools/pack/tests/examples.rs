@@ -1,0 +1,112 @@
+//! Every example's text packs to its files, which unpack to a text that packs to them again; and
+//! whatever becomes of texts and files, nothing panics.
+
+use std::fs;
+use std::path::{Path, PathBuf};
+
+use pack::hang::Hang;
+use pack::text::parse;
+
+type Files = [Option<Vec<u8>>; 3];
+
+fn examples() -> Vec<PathBuf> {
+    let folder = Path::new(env!("CARGO_MANIFEST_DIR")).join("../../examples");
+    let entries = fs::read_dir(folder).unwrap().map(|e| e.unwrap().path());
+    entries.filter(|path| path.is_dir()).collect()
+}
+
+fn text(example: &Path) -> Vec<u8> {
+    fs::read(example.join("hang.txt")).unwrap()
+}
+
+fn files(example: &Path) -> Files {
+    Hang::FILES.map(|name| Some(fs::read(example.join(name)).unwrap()))
+}
+
+#[test]
+fn examples_round_trip() {
+    let examples = examples();
+    assert!(examples.len() >= 4);
+    for example in examples {
+        let packed = parse(&text(&example)).unwrap().hang;
+        assert_eq!(packed.to_files(), files(&example), "{example:?}");
+        let unpacked = Hang::from_files(files(&example)).unwrap();
+        assert_eq!(unpacked, packed);
+        let again = parse(unpacked.to_string().as_bytes()).unwrap();
+        assert_eq!(again.hang, packed);
+    }
+}
+
+#[test]
+fn the_refused_example_is_warned_of() {
+    for example in examples() {
+        let expected = fs::read_to_string(example.join("expected.txt")).unwrap();
+        let warning = parse(&text(&example)).unwrap().warning;
+        match expected.trim_end().strip_prefix("refused ") {
+            Some(refusal) => assert!(warning
+                .unwrap()
+                .reason
+                .ends_with(&format!("with {refusal}"))),
+            None => assert_eq!(warning, None),
+        }
+    }
+}
+
+/// A stream of numbers that look random and are the same in every run.
+struct Numbers(u64);
+
+impl Numbers {
+    fn below(&mut self, bound: usize) -> usize {
+        self.0 = self
+            .0
+            .wrapping_mul(6_364_136_223_846_793_005)
+            .wrapping_add(1);
+        (self.0 >> 33) as usize % bound
+    }
+
+    /// Sets, drops or repeats a byte.
+    fn damage(&mut self, bytes: &mut Vec<u8>) {
+        let at = self.below(bytes.len());
+        match self.below(4) {
+            0 => bytes.truncate(at),
+            1 => drop(bytes.remove(at)),
+            2 => bytes.insert(at, bytes[at]),
+            _ => bytes[at] ^= 1 << self.below(8),
+        }
+    }
+}
+
+#[test]
+fn damaged_texts_do_not_panic() {
+    let mut numbers = Numbers(1);
+    for example in examples() {
+        let whole = text(&example);
+        for _ in 0..2_000 {
+            let mut text = whole.clone();
+            numbers.damage(&mut text);
+            if let Ok(parsed) = parse(&text) {
+                let files = parsed.hang.to_files();
+                assert_eq!(Hang::from_files(files), Ok(parsed.hang));
+            }
+        }
+    }
+}
+
+#[test]
+fn damaged_files_are_refused_or_come_back() {
+    let mut numbers = Numbers(2);
+    for example in examples() {
+        let whole = files(&example);
+        for _ in 0..2_000 {
+            let mut files = whole.clone();
+            if let Some(bytes) = &mut files[numbers.below(3)] {
+                numbers.damage(bytes);
+            }
+            if let Ok(hang) = Hang::from_files(files.clone()) {
+                assert_eq!(hang.to_files(), files);
+                let parsed = parse(hang.to_string().as_bytes()).unwrap();
+                assert_eq!(parsed.hang, hang);
+            }
+        }
+    }
+}

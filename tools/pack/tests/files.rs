@@ -1,0 +1,87 @@
+//! Malformed packed files, against the numbers that the engine refuses them with.
+
+use pack::edge::FileFault;
+use pack::graph::Graph;
+use pack::plan::Plan;
+use pack::query::Query;
+
+/// The worked files G, Q and P in hexadecimal.
+const G: &str = "0004 00005 0000000000000000 \
+                 0000010001 0000010002 0001010002 0001010003 0002010003 0";
+const Q: &str = "31 80 00 00 00 00 00 02 02 10 09 40 20";
+const P: &str = "10 05 00";
+
+fn bytes(hex: &str) -> Vec<u8> {
+    let digits: Vec<u32> = hex.chars().filter_map(|c| c.to_digit(16)).collect();
+    digits.chunks(2).map(|d| (d[0] * 16 + d[1]) as u8).collect()
+}
+
+fn refusal<T: std::fmt::Debug>(result: Result<T, FileFault>) -> u8 {
+    result.unwrap_err().refusal
+}
+
+fn graph(hex: &str) -> Result<Graph, FileFault> {
+    Graph::from_bytes(&bytes(hex))
+}
+
+fn query(hex: &str) -> Result<Query, FileFault> {
+    Query::from_bytes(&bytes(hex))
+}
+
+fn plan(hex: &str) -> Result<Plan, FileFault> {
+    Plan::from_bytes(&bytes(hex), &query(Q).unwrap())
+}
+
+#[test]
+fn the_worked_files_come_back() {
+    assert_eq!(graph(G).unwrap().to_bytes(), bytes(G));
+    assert_eq!(query(Q).unwrap().to_bytes(), bytes(Q));
+    assert_eq!(plan(P).unwrap().to_bytes(), bytes(P));
+}
+
+#[test]
+fn graphs() {
+    assert!(graph("0000 00000 0").is_ok());
+    assert_eq!(refusal(graph("")), 1);
+    assert_eq!(refusal(graph("0000 0000")), 1);
+    assert_eq!(refusal(Graph::from_bytes(&bytes(G)[..37])), 1);
+    assert_eq!(refusal(graph("0000 00000 000")), 2);
+    assert_eq!(refusal(graph("0000 00000 1")), 2);
+    assert_eq!(refusal(graph("0001 00001 0000 0000010001 0")), 3);
+    assert_eq!(refusal(graph("0001 00001 0000 0001010000 0")), 3);
+    assert_eq!(refusal(graph("0001 00001 0000 0000000000 0")), 3);
+    assert_eq!(refusal(graph("0001 00002 0000 0000010000 0000010000 0")), 4);
+    assert_eq!(refusal(graph("0001 00002 0000 0000020000 0000010000 0")), 4);
+}
+
+#[test]
+fn queries() {
+    // Two vertices and one edge from 0 to 1 of label 1: 55 bits.
+    assert!(query("20 80 00 00 00 02 02").is_ok());
+    assert_eq!(refusal(query("")), 6);
+    assert_eq!(refusal(query("20")), 6);
+    assert_eq!(refusal(query("10 80")), 8);
+    assert_eq!(refusal(query("90 80")), 8);
+    assert_eq!(refusal(query("20 00")), 8);
+    assert_eq!(refusal(query("2c 80")), 8);
+    assert_eq!(refusal(query("20 80 00 00 00 02")), 6);
+    assert_eq!(refusal(query("20 80 00 00 00 02 02 00")), 7);
+    assert_eq!(refusal(query("20 80 00 00 00 02 03")), 7);
+    assert_eq!(refusal(query("20 80 00 00 00 04 02")), 9);
+    assert_eq!(refusal(query("20 80 00 00 00 20 02")), 9);
+    assert_eq!(refusal(query("20 80 00 00 00 00 02")), 9);
+    assert_eq!(refusal(query("20 80 00 00 00 02 00")), 9);
+    assert_eq!(refusal(query("21 00 00 00 00 02 02 08 08")), 10);
+}
+
+#[test]
+fn plans() {
+    assert_eq!(refusal(plan("")), 12);
+    assert_eq!(refusal(plan("10 05")), 12);
+    assert_eq!(refusal(plan("00")), 14);
+    assert_eq!(refusal(plan("0e")), 14);
+    assert_eq!(refusal(plan("08 30")), 14);
+    assert_eq!(refusal(plan("0b c0")), 14);
+    assert_eq!(refusal(plan("10 05 00 00")), 13);
+    assert_eq!(refusal(plan("10 05 01")), 13);
+}
