@@ -21,8 +21,7 @@ use Rattle.query.specs.File.{queryOf, queryFault}
 use Rattle.query.specs.Parts.{Readable}
 use Rattle.query.specs.Answer.{structOf, Held}
 use Rattle.query.proofs.Refusals.{first-some, first-one, first-group}
-use Rattle.query.proofs.Structs.{held}
-use Rattle.query.proofs.FileLaws.{query-readable as readable}
+use Rattle.query.proofs.FileLaws.{query-readable as readable, query-held as holds}
 use Rattle.plan.specs.Plan.{scan, extend, join}
 use Rattle.plan.specs.Check.{rulesFault}
 use Rattle.plan.specs.File.{operatorCount, kindAt, operandAt, operatorAt, place, operatorsOf, operatorFault, planFault, checkFault}
@@ -126,7 +125,7 @@ accepted query plan e =
     let f : fileFault (queryOf query) plan ≡ 0 = first-head _ _ both in
     record {
       query-readable = readable query q;
-      query-held = held query (readable query q .limits);
+      query-held = holds query q;
       plan-bits = bits-all (queryOf query) plan f;
       plan-some = some-operator (queryOf query) plan f;
       plan-count = count-le plan;

@@ -9,3 +9,4 @@ pub mod Sets
 pub mod Piles
 pub mod Turns
 pub mod Accepted
+pub mod Refused
