@@ -1,13 +1,13 @@
 -- Laws of a plan without fault: its file's bits are there, and the query has what its operators name. Assumes nothing.
-use mathlib.Core.Path.{_≡_, refl, sym, _∙_, ap, ap₂}
+use mathlib.Core.Path.{_≡_, refl, sym, _∙_}
 use mathlib.Core.Bool.{Bool, true, false, cond, not, _&&_}
-use mathlib.Core.List.{List, [], _∷_, _++_, map, append-assoc}
-use Prim.Native.Nat.{ℕ, zero, suc, _+_, _≤_, _<_}
+use mathlib.Core.List.{List, [], _∷_, map, append-assoc}
+use Prim.Native.Nat.{ℕ, zero, suc, _≤_, _<_}
 use native.Mathlib.Nat.{lt-suc-self}
 use native.Mathlib.Omega.{arith}
 use lib.Dec.{eqb, ltb}
 use lib.ListN.{length, length-replicate}
-use borrow.Author.Tests.{ltb-false}
+use borrow.Author.Tests.{ltb-false, eqb-false}
 use Rattle.lists.specs.Lists.{range, all}
 use Rattle.lists.specs.Refusal.{refuse, first}
 use Rattle.lists.proofs.Tests.{not-false}
@@ -21,9 +21,8 @@ use Rattle.query.specs.File.{queryOf, queryFault}
 use Rattle.query.specs.Parts.{Readable}
 use Rattle.query.specs.Answer.{structOf, Held}
 use Rattle.query.proofs.Refusals.{first-some, first-one, first-group}
-use Rattle.query.proofs.Structs.{held}
-use Rattle.query.proofs.FileLaws.{query-readable as readable}
-use Rattle.plan.specs.Plan.{Operator, scan, extend, join}
+use Rattle.query.proofs.FileLaws.{query-readable as readable, query-held as holds}
+use Rattle.plan.specs.Plan.{scan, extend, join}
 use Rattle.plan.specs.Check.{rulesFault}
 use Rattle.plan.specs.File.{operatorCount, kindAt, operandAt, operatorAt, place, operatorsOf, operatorFault, planFault, checkFault}
 use Rattle.plan.specs.Parts.{ofSize, endFaults, operatorsFaults, fileFault}
@@ -68,6 +67,11 @@ module _ (q : Query) (s : List ℕ) (ok : fileFault q s ≡ 0) where
   operators-ok =
       first-each (λ (i : ℕ). operatorFault q s (place s i)) (operatorCount s) (first-append-l _ _ (first-tail _ _ (first-tail _ _ ok)))
 
+  pub some-operator : 0 < operatorCount s
+  unfolding fileFault
+  some-operator =
+      let some : (operatorCount s ≡ 0 → ⊥) = eqb-false _ 0 (refuse-zero 13 _ (first-head _ _ (first-tail _ _ ok))) in omega arith
+
   pub all-named : all (named q) (operatorsOf s) ≡ true
   unfolding operatorsOf
   all-named =
@@ -105,6 +109,7 @@ pub record Accepted (query plan : List ℕ) : Type 0 where
   pub query-readable : Readable query
   pub query-held : Held (structOf (queryOf query))
   pub plan-bits : place plan (operatorCount plan) ≤ bitsIn plan
+  pub plan-some : 0 < operatorCount plan
   pub plan-count : operatorCount plan ≤ maxOperators
   pub plan-named : all (named (queryOf query)) (operatorsOf plan) ≡ true
   pub plan-rules : rulesFault (queryOf query) [] (operatorsOf plan) ≡ 0
@@ -120,8 +125,9 @@ accepted query plan e =
     let f : fileFault (queryOf query) plan ≡ 0 = first-head _ _ both in
     record {
       query-readable = readable query q;
-      query-held = held query (readable query q .limits);
+      query-held = holds query q;
       plan-bits = bits-all (queryOf query) plan f;
+      plan-some = some-operator (queryOf query) plan f;
       plan-count = count-le plan;
       plan-named = all-named (queryOf query) plan f;
       plan-rules = sym (first-one _) ∙ first-tail _ _ both;

@@ -1,5 +1,4 @@
-pub mod Joinable
--- Laws of the plan: its file, its struct, the sets that its results cover, and the answers.
+-- Laws of the plan: its file, its struct, the sets that its results cover, the rules, and the answers.
 pub mod Refusals
 pub mod Indices
 pub mod Places
@@ -7,5 +6,7 @@ pub mod Structs
 pub mod Stacks
 pub mod Sets
 pub mod Piles
+pub mod Joinable
 pub mod Turns
 pub mod Accepted
+pub mod Refused

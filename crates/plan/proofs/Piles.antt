@@ -1,18 +1,17 @@
 -- Laws of the rules over a pile of masks, by its size. Assumes nothing.
-use mathlib.Core.Path.{_≡_, refl, sym, _∙_, ap}
+use mathlib.Core.Path.{_≡_, refl}
 use mathlib.Core.Bool.{Bool, true, false, not, _||_}
 use mathlib.Core.List.{List, [], _∷_, map}
-use Prim.Native.Nat.{ℕ, zero, suc, _<_}
-use native.Mathlib.Nat.{not-suc-le-zero, zero-lt-suc, le-of-suc-le-suc}
+use Prim.Native.Nat.{ℕ, suc, _<_}
+use native.Mathlib.Nat.{not-suc-le-zero, zero-lt-suc}
 use native.Mathlib.Omega.{arith}
-use lib.Dec.{ltb}
-use lib.ListN.{length, getD, drop, length-map}
+use lib.ListN.{length, getD, drop}
 use borrow.Author.Tests.{lt-ltb}
 use Rattle.lists.specs.Lists.{range, all}
 use Rattle.lists.specs.Refusal.{refuse, first}
-use Rattle.query.specs.Query.{Query, VertexSet, touches}
+use Rattle.query.specs.Query.{Query, touches}
 use Rattle.query.specs.Mask.{inMask}
-use Rattle.plan.specs.Plan.{Operator, scan, extend, join, plus, union}
+use Rattle.plan.specs.Plan.{extend, join, plus, union}
 use Rattle.plan.specs.Check.{joinable, ruleFault, covered, endFault}
 
 module _ (q : Query) where

@@ -1,6 +1,6 @@
 -- Laws of the rules operator by operator, over the operators of a struct. Assumes nothing.
-use mathlib.Core.Path.{_≡_, refl, sym, _∙_, ap}
-use mathlib.Core.Bool.{Bool, true}
+use mathlib.Core.Path.{_≡_, sym, _∙_, ap}
+use mathlib.Core.Bool.{true}
 use mathlib.Core.List.{List, [], _∷_}
 use Prim.Native.Nat.{ℕ, _+_, _≤_, _<_}
 use native.Mathlib.Numerals.{add-one}
@@ -8,7 +8,7 @@ use lib.ListN.{length, drop, drop-of-length-le}
 use lib.Seq.{drop-cons}
 use Rattle.lists.specs.Lists.{all}
 use Rattle.lists.specs.Refusal.{first}
-use Rattle.lists.proofs.Faults.{first-cons}
+use Rattle.lists.proofs.Faults.{first-head, first-tail, first-cons}
 use Rattle.query.specs.Query.{Query, VertexSet}
 use Rattle.query.proofs.Refusals.{first-some, first-one}
 use Rattle.query.proofs.Images.{length-image}
@@ -36,6 +36,13 @@ module _ (q : Query) (p : PlanStruct) where
   unfolding rulesFault
   turn sets i o h e =
       rw (drop-cons (operatorsIn p) i join (rw count-is h), operator-in p i join h, ← e, add-one i)
+
+  -- Where no fault is left, the operator has none, and none is left after it.
+  pub rules-each : (sets : List VertexSet) (i : ℕ) (o : Operator) → i < p .operators → o ≡ operatorIn p i
+      → rulesFault q sets (drop i (operatorsIn p)) ≡ 0
+      → (ruleFault q o sets ≡ 0) × (rulesFault q (covered q o sets) (drop (i + 1) (operatorsIn p)) ≡ 0)
+  rules-each sets i o h e z =
+      let both = sym (turn sets i o h e) ∙ z in (first-head _ _ both, sym (first-one _) ∙ first-tail _ _ both)
 
   pub rules-stop : (sets : List VertexSet) (i : ℕ) (o : Operator) → i < p .operators → o ≡ operatorIn p i → (ruleFault q o sets ≡ 0 → ⊥)
       → rulesFault q sets (drop i (operatorsIn p)) ≡ ruleFault q o sets

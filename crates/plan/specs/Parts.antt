@@ -1,4 +1,5 @@
--- The faults of a plan's file by themselves, before its rules are looked at. Assumes nothing.
+-- Parts of the plan file's refusal, which functions of the code answer one by one. Assumes nothing.
+use mathlib.Core.Bool.{not, _&&_}
 use mathlib.Core.List.{List, [], _∷_, _++_, map}
 use Prim.Native.Nat.{ℕ}
 use lib.Dec.{eqb, ltb}
@@ -12,6 +13,10 @@ use Rattle.plan.specs.File.{operatorCount, place, operatorFault}
 -- A query of n vertices and m edges. The faults of a plan's file look at no more of a query.
 abbrev pub ofSize : ℕ → ℕ → Query
 ofSize n m = record { vertices = n; labels = []; edges = replicate m (record { source = 0; label = 0; target = 0 }) }
+
+-- '14 .. an edge or vertex the query lacks', of an operand after a kind, for n vertices and m edges.
+abbrev pub operandFault : ℕ → ℕ → ℕ → ℕ → ℕ
+operandFault k x n m = first (refuse 14 (eqb k 0 && not (ltb x m)) ∷ refuse 14 (eqb k 1 && not (ltb x n)) ∷ [])
 
 -- The faults of a plan file whose operators end at a bit position.
 abbrev pub endFaults : List ℕ → ℕ → List ℕ

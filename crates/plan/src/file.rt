@@ -4,15 +4,13 @@ use packed::bytes_for;
 use packed::field;
 use packed::fill_set;
 ghost use mathlib.Core.Path.{_≡_};
-ghost use mathlib.Core.Bool.{not, _&&_};
-ghost use mathlib.Core.List.{[], _∷_};
-ghost use Prim.Native.Nat.{ℕ, _+_, _*_, _^_, _≤_, _<_};
-ghost use lib.Dec.{eqb, ltb};
+ghost use Prim.Native.Nat.{_+_, _^_, _≤_, _<_};
 ghost use lib.ListN.{length};
-ghost use Rattle.lists.specs.Refusal.{refuse, first};
-ghost use Rattle.packed.specs.Field.{bitsIn, bytesFor, fillSet};
+ghost use Rattle.lists.specs.Refusal.{first};
+ghost use Rattle.packed.specs.Field.{bitsIn, bytesFor};
 ghost use Rattle.plan.specs.File.{operatorCount, kindAt, operandWidth, operandAt, operatorFault};
-ghost use Rattle.plan.specs.Parts.{ofSize, endFaults, operatorsFaults, fileFault};
+ghost use Rattle.plan.specs.Answer.{maxOperators};
+ghost use Rattle.plan.specs.Parts.{ofSize, operandFault, endFaults, operatorsFaults, fileFault};
 
 pub fn operator_count(file: &[u8]) -> usize
     requires { ⌜ 0 < length (now file) ⌝ }
@@ -53,7 +51,7 @@ pub fn operand(file: &[u8], at: usize) -> u32
 
 // 14 where a scan names an edge not below m or an extend a vertex not below n, else 0.
 fn operand_fault(kind: u32, operand: usize, n: usize, m: usize) -> u32
-    ensures { λ r. ⌜ r ≡ first (refuse 14 (eqb kind 0 && not (ltb operand m)) ∷ refuse 14 (eqb kind 1 && not (ltb operand n)) ∷ []) ⌝ }
+    ensures { λ r. ⌜ r ≡ operandFault kind operand n m ⌝ }
 {
     if kind == Plan::SCAN {
         if m <= operand {
@@ -104,7 +102,7 @@ fn end_fault(file: &[u8], end: usize) -> u32
 
 // The fault of the first operator at fault, then of the file's end. `at` is the place of operator i.
 fn operators_fault(file: &[u8], count: usize, n: usize, m: usize) -> u32
-    requires { ⌜ (count ≤ 31) × (0 < length (now file)) ⌝ }
+    requires { ⌜ (count ≤ maxOperators) × (0 < length (now file)) ⌝ }
     ensures { λ r. ⌜ r ≡ first (operatorsFaults (ofSize n m) (now (file .entry)) count) ⌝ }
 {
     let mut at = 5;

@@ -2,10 +2,9 @@
 // `proofs/` has the laws.
 ghost use mathlib.Core.Path.{_≡_};
 ghost use Prim.Native.Nat.{_≤_, _<_};
-ghost use lib.ListN.{length};
 ghost use Rattle.packed.specs.Field.{bitsIn};
 ghost use Rattle.plan.specs.File.{operatorCount, place, checkFault, checkAnswer};
-ghost use Rattle.plan.specs.Answer.{operatorIs, planStruct, operatorIn};
+ghost use Rattle.plan.specs.Answer.{maxOperators, operatorIs, planStruct, operatorIn};
 
 mod file;
 mod rules;
@@ -63,7 +62,7 @@ impl Plan {
 
     // The operator of an index below the count.
     pub fn operator(self, i: usize) -> Operator
-        requires { ⌜ i < 31 ⌝ }
+        requires { ⌜ i < maxOperators ⌝ }
         ensures { λ r. ⌜ operatorIs r ≡ operatorIn self i ⌝ }
     {
         let kind = self.kinds[i];

@@ -1,17 +1,13 @@
 -- `plan::check_fault` meets its contract: the query's faults, then the file's, then the rules'. Assumes nothing.
-use mathlib.Core.Path.{_≡_, sym, _∙_, ap, ap₂}
-use mathlib.Core.List.{[]}
+use mathlib.Core.Path.{_≡_, sym, _∙_, ap}
 use denote.Ref.{now}
 use borrow.Author.Needs.{needs}
-use Rattle.query.specs.Query.{Query}
 use Rattle.query.specs.File.{queryOf, queryFault}
-use Rattle.query.specs.Answer.{queryIn}
 use Rattle.query.specs.declared.Query.{Query as QueryStruct}
-use Rattle.query.proofs.Structs.{file-struct, held}
-use Rattle.query.proofs.FileLaws.{query-readable}
-use Rattle.plan.specs.Check.{rulesFault}
+use Rattle.query.proofs.Structs.{file-struct}
+use Rattle.query.proofs.FileLaws.{query-readable, query-held}
 use Rattle.plan.specs.Parts.{ofSize, fileFault}
-use Rattle.plan.specs.Answer.{planStruct, operatorsIn}
+use Rattle.plan.specs.Answer.{planStruct}
 use Rattle.plan.proofs.Structs.{file-operators}
 use Rattle.plan.proofs.Accepted.{file-fault-size, all-named, bits-all, count-le, check-query, check-file, check-rules}
 use Rattle.plan.proofs.check_fault.Statement.{statement}
@@ -58,7 +54,7 @@ rules-fault-requires c κs =
     let n = c .before .before .before in
     let s = now (n .before .before .before .before .before .args .query) in
     rw (n .of-file .ensures, c .of-file2 .ensures, file-struct s, file-operators _)
-    (held s (query-readable s (query-clear (n .before)) .limits), count-le _, all-named _ _ (file-clear (c .before)))
+    (query-held s (query-clear (n .before)), count-le _, all-named _ _ (file-clear (c .before)))
 
 returns-3 : tie.Need-returns-3
 returns-3 c =

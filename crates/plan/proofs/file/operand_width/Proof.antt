@@ -1,5 +1,5 @@
 -- `plan::file::operand_width` meets its contract, by its two tests. Assumes nothing.
-use borrow.Author.Tests.{eq-eqb, ne-eqb}
+use borrow.Author.Tests.{ne-eqb}
 use Rattle.plan.proofs.file.operand_width.Statement.{statement}
 use Rattle.plan.proofs.file.operand_width.Tie as tie
 

@@ -20,12 +20,12 @@ use Rattle.plan.proofs.rules.end_fault.Tie as tie
 
 -- Over one result: it covers every vertex where the mask of those that it lacks is 0.
 settled : (c : tie.After-minus)
-    → let a = c .before .before .before .before .before .before .before .args in
+    → let a = c .before .before .before .before .before .args in
     endFault (queryIn (a .q)) (setsIn (a .pile)) ≡ refuse 18 (not (eqb (c .minus .result) 0))
 unfolding queryIn
 settled c =
     let e = c .before .before .before in
-    let a = e .before .before .before .before .args in
+    let a = e .before .before .args in
     end-one (queryIn (a .q)) (masksIn (a .pile)) (omega (arith, depth-is (a .pile)))
     ∙ ap (λ (b : Bool). refuse 18 (not b))
     (mask-all 32 (c .minus .result) (a .q .vertices) (inMask (getD (masksIn (a .pile)) 0 0)) (search needs)
@@ -33,12 +33,12 @@ settled c =
 
 returns : tie.Need-returns
 returns c =
-    let a = c .before .before .args in
+    let a = c .before .args in
     sym (end-none (queryIn (a .q)) (masksIn (a .pile)) (omega (arith, depth-is (a .pile), c .if1 .taken)))
 
 returns-2 : tie.Need-returns-2
 returns-2 c =
-    let a = c .before .before .before .before .args in
+    let a = c .before .before .args in
     sym (end-many (queryIn (a .q)) (masksIn (a .pile)) (omega (arith, depth-is (a .pile), c .if2 .taken)))
 
 below-requires : tie.Need-below-requires

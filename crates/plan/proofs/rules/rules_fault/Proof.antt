@@ -1,11 +1,10 @@
 -- `plan::rules::rules_fault` meets its contract: what is left of the rules is over the pile that the first i operators leave.
 -- Assumes nothing.
-use mathlib.Core.Path.{_≡_, sym, _∙_, ap}
+use mathlib.Core.Path.{_≡_, sym, _∙_}
 use mathlib.Core.Bool.{true}
 use mathlib.Core.List.{[]}
 use Prim.Native.Nat.{_-_, _≤_}
 use native.Mathlib.Omega.{arith}
-use borrow.Author.Needs.{needs}
 use lib.ListN.{drop}
 use Rattle.query.specs.Answer.{queryIn}
 use Rattle.plan.specs.Check.{rulesFault}
