@@ -5,3 +5,5 @@ pub mod Listed
 pub mod Portions
 pub mod Accepted
 pub mod Between
+pub mod KeyLists
+pub mod Offsets
