@@ -35,6 +35,11 @@ ascending-append t (x ∷ xs) ys p q a b =
     let j : t ≤ y = ltb-false y t (not-true (ltb y t) h) in
     lt-ltb x y (omega arith))))
 
+pub map-flatMap : {A B C : Type 0} (f : B → C) (h : A → List B) (xs : List A) → map f (flatMap h xs) ≡ flatMap (λ x. map f (h x)) xs
+unfolding flatMap
+map-flatMap f h [] = refl
+map-flatMap f h (x ∷ xs) = map-append f (h x) (flatMap h xs) ∙ ap (λ (l : List _). map f (h x) ++ l) (map-flatMap f h xs)
+
 -- The key of entry k of vertex v.
 abbrev pub keyAt : ℕ → ℕ → ℕ
 keyAt v k = v * 16777216 + k

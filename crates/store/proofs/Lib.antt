@@ -7,3 +7,4 @@ pub mod Accepted
 pub mod Between
 pub mod KeyLists
 pub mod Offsets
+pub mod Spelt

@@ -8,11 +8,12 @@ use native.Mathlib.Nat.{eq-or-lt-of-le, le-of-suc-le-suc, not-suc-le-zero}
 use native.Mathlib.Omega.{arith}
 use lib.Dec.{eqb, ltb}
 use borrow.Author.Tests.{ltb-true, lt-ltb}
-use Rattle.lists.specs.Lists.{_⇒_, bit, range, all, any, keep, count}
+use Rattle.lists.specs.Lists.{_⇒_, bit, range, all, any, keep, count, sort}
 use Rattle.store.specs.Check.{member}
 use Rattle.lists.proofs.Tests.{clash, and-l, and-r, imp-intro, or-intro-l, or-intro-r, or-elim}
 use Rattle.lists.proofs.All.{all-mem, all-keep, all-follows, all-range}
 use Rattle.lists.proofs.Count.{count-map, count-keep, count-under, count-range-one}
+use Rattle.lists.proofs.Sort.{count-sort}
 
 -- Some element passes where at least one does.
 pub any-count : {A : Type 0} (p : A → Bool) (xs : List A) → any p xs ≡ ltb 0 (count p xs)
@@ -91,3 +92,7 @@ member-range p n k =
     bit-true : (b : Bool) → ltb 0 (bit b) ≡ b
     bit-true true = refl
     bit-true false = refl
+
+pub member-sort : (k : ℕ) (xs : List ℕ) → member k (sort xs) ≡ member k xs
+member-sort k xs =
+    any-count (λ (x : ℕ). eqb x k) (sort xs) ∙ ap (ltb 0) (count-sort (λ (x : ℕ). eqb x k) xs) ∙ sym (any-count (λ (x : ℕ). eqb x k) xs)

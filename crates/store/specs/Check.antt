@@ -4,20 +4,20 @@ use mathlib.Core.Bool.{Bool, false, _&&_}
 use mathlib.Core.List.{List, [], _∷_}
 use Prim.Native.Nat.{ℕ, suc, _+_, _-_, _%_, _<_}
 use lib.Dec.{eqb, leb, ltb}
-use lib.ListN.{length, getD, take, drop}
+use lib.ListN.{length, take, drop}
 use Rattle.lists.specs.Lists.{range, all, any, ascendsFrom}
 use Rattle.graph.specs.Graph.{Direction, forward, backward}
 use Rattle.graph.specs.Store.{usedWords}
-use Rattle.store.specs.Side.{listOn, sideIn}
+use Rattle.store.specs.Side.{listOn, verticesIn, edgesIn}
 
 -- The counts are within their limits, and the words that they tell are there.
 unfoldable pub countsFit : List ℕ → Bool
 countsFit store =
-    leb 2 (length store) && ltb (getD store 0 0) 65536 && ltb (getD store 1 0) 1048576
-    && leb (usedWords (getD store 0 0) (getD store 1 0)) (length store)
+    leb 2 (length store) && ltb (verticesIn store) 65536 && ltb (edgesIn store) 1048576
+    && leb (usedWords (verticesIn store) (edgesIn store)) (length store)
 
 unfoldable pub labelsFit : List ℕ → Bool
-labelsFit store = all (λ (l : ℕ). ltb l 65536) (take (getD store 0 0) (drop 2 store))
+labelsFit store = all (λ (l : ℕ). ltb l 65536) (take (verticesIn store) (drop 2 store))
 
 -- 'Offsets count entries from 0': they start at 0, never fall, and end at m.
 unfoldable pub risesTo : ℕ → ℕ → List ℕ → Bool
