@@ -1,7 +1,7 @@
 -- The lists of the vertices below n, one after the other, as keys: a vertex and an entry as one number. Assumes nothing.
 use mathlib.Core.Path.{_≡_, refl, sym, _∙_, ap, ap₂}
 use mathlib.Core.Logic.{_⊎_, inl, inr}
-use mathlib.Core.Bool.{Bool, true, false, not, _&&_}
+use mathlib.Core.Bool.{Bool, true, not}
 use mathlib.Core.List.{List, [], _∷_, _++_, map, map-map, map-id, map-append, flatMap}
 use Prim.Native.Nat.{ℕ, zero, suc, _+_, _*_, _%_, _≤_, _<_}
 use native.Mathlib.Nat.{eq-or-lt-of-le, add-zero}
@@ -9,7 +9,7 @@ use native.Mathlib.Omega.{arith}
 use lib.Dec.{eqb, ltb}
 use lib.ListN.{length, length-map}
 use borrow.Author.Tests.{eqb-true, eq-eqb, ltb-true, ltb-false, lt-ltb, le-ltb}
-use Rattle.lists.specs.Lists.{range, all, any, count, ascendsFrom, ascending}
+use Rattle.lists.specs.Lists.{range, all, count, ascending}
 use Rattle.store.specs.Check.{member}
 use Rattle.lists.proofs.Tests.{and-l, and-r, and-both, not-true}
 use Rattle.lists.proofs.All.{all-append, all-follows}

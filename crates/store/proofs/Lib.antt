@@ -8,3 +8,4 @@ pub mod Between
 pub mod KeyLists
 pub mod Offsets
 pub mod Spelt
+pub mod Tested

@@ -5,9 +5,9 @@ use mathlib.Core.Bool.{Bool, true, not, _&&_}
 use mathlib.Core.List.{List, _++_, map}
 use Prim.Native.Nat.{ℕ, suc, _+_, _*_, _%_, _≤_, _<_}
 use native.Mathlib.Omega.{arith}
-use lib.Dec.{eqb, leb, ltb}
-use borrow.Author.Tests.{eqb-true, eq-eqb, ltb-true, ltb-false, lt-ltb, le-ltb, le-leb}
-use Rattle.lists.specs.Lists.{_⇒_, all, keep, count, ascending, sort}
+use lib.Dec.{eqb, ltb}
+use borrow.Author.Tests.{eqb-true, eq-eqb, ltb-true, ltb-false, lt-ltb, le-ltb}
+use Rattle.lists.specs.Lists.{_⇒_, all, any, keep, count, ascending, sort}
 use Rattle.lists.proofs.Tests.{iff, and-l, and-r, and-both, imp-intro, not-true}
 use Rattle.lists.proofs.All.{all-keep, all-follows}
 use Rattle.lists.proofs.Count.{count-map, count-keep, count-under, all-map}
@@ -18,7 +18,7 @@ use Rattle.graph.proofs.WellFormed.{WellFormed, Fitting, fitting, fitting-edge}
 use Rattle.graph.proofs.Keys.{entry-fits, far-in, key-entry, key-below, keys-ascend}
 use Rattle.graph.proofs.VertexLists.{listAt, keyOf, vertex-list}
 use Rattle.store.specs.Portion.{listOf}
-use Rattle.store.proofs.Members.{kept}
+use Rattle.store.proofs.Members.{any-count, kept}
 use Rattle.store.proofs.Ascending.{ascending-keep, ascending-map}
 
 -- Counting and testing in a list is counting and testing over the vertex's edges.
@@ -35,6 +35,11 @@ unfolding listOf
 list-all p d g x =
     let mine : List Edge = keep (λ (e : Edge). eqb (near d e) x) (g .edges) in
     all-sort p (map (entry d) mine) ∙ all-map p (entry d) mine ∙ all-keep (λ (e : Edge). p (entry d e)) (λ (e : Edge). eqb (near d e) x) (g .edges)
+
+pub list-any : (p : ℕ → Bool) (d : Direction) (g : Graph) (x : ℕ)
+    → any p (listOf d g x) ≡ any (λ (e : Edge). eqb (near d e) x && p (entry d e)) (g .edges)
+list-any p d g x =
+    any-count p (listOf d g x) ∙ ap (ltb 0) (list-count p d g x) ∙ sym (any-count (λ (e : Edge). eqb (near d e) x && p (entry d e)) (g .edges))
 
 -- The keys of the edges at x lie between two multiples, so that their entries ascend as they do.
 key-span : (x k : ℕ) → keyOf x k ≡ true → (x * 16777216 ≤ k) × (k < suc x * 16777216)
@@ -106,8 +111,8 @@ module _ (g : Graph) (w : WellFormed g) (d : Direction) (x : ℕ) where
       (λ e t. imp-intro (eqb (near d e) x) (p (entry d e)) (λ i. h e (fitting-edge (g .vertices) e t) (eqb-true (near d e) x i)))
 
   -- An entry: a label from 1 to 255 and a neighbour below N.
-  pub entries-given : all (λ (k : ℕ). leb 65536 k) (listOf d g x) ≡ true
-  entries-given = list-entries (λ (k : ℕ). leb 65536 k) (λ e f i. le-leb 65536 (entry d e) (omega arith))
+  pub entries-given : all (λ (k : ℕ). ltb 65535 k) (listOf d g x) ≡ true
+  entries-given = list-entries (λ (k : ℕ). ltb 65535 k) (λ e f i. lt-ltb 65535 (entry d e) (omega arith))
 
   pub entries-fit : all (λ (k : ℕ). ltb k 16777216) (listOf d g x) ≡ true
   entries-fit =

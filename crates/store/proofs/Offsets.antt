@@ -1,7 +1,7 @@
 -- A side of a store whose offsets start at 0, never fall and end at m: its lists lie one after the other, and make up its m
 -- entries. Assumes nothing.
 use mathlib.Core.Path.{_≡_, refl, sym, _∙_, ap, ap₂}
-use mathlib.Core.Bool.{Bool, true, false, _&&_}
+use mathlib.Core.Bool.{true}
 use mathlib.Core.List.{List, [], _∷_, _++_, flatMap}
 use Prim.Native.Nat.{ℕ, zero, suc, _+_, _-_, _≤_, _<_, zero-le}
 use native.Mathlib.Nat.{add-sub-of-le, not-suc-le-zero, le-of-suc-le-suc}

@@ -1,32 +1,32 @@
 -- A store that passes every test of the check spells a well-formed graph, and its words are those that this graph is loaded
 -- to. Assumes nothing.
-use mathlib.Core.Path.{_≡_, refl, sym, _∙_, ap, ap₂, fun-ext, subst}
-use mathlib.Core.Bool.{Bool, true, not, _&&_}
-use mathlib.Core.List.{List, [], _∷_, _++_, map, map-map, flatMap}
+use mathlib.Core.Path.{_≡_, sym, _∙_, ap, ap₂, fun-ext, subst}
+use mathlib.Core.Bool.{Bool, true, _&&_}
+use mathlib.Core.List.{List, _∷_, _++_, map, map-map, flatMap}
 use Prim.Native.Nat.{ℕ, suc, _+_, _-_, _*_, _/_, _%_, _≤_, _<_}
 use native.Mathlib.Omega.{arith}
-use lib.Dec.{eqb, leb, ltb}
+use lib.Dec.{ltb}
 use lib.ListN.{length, getD, take, drop, length-map, length-drop, take-append-drop}
 use lib.Seq.{length-take-le, getD-drop, drop-cons, drop-drop}
-use borrow.Author.Tests.{eqb-true, eq-eqb, ltb-true, lt-ltb, leb-true}
+use borrow.Author.Tests.{ltb-true, lt-ltb, leb-true}
 use Rattle.lists.specs.Lists.{range, all, count, ascendsFrom, ascending, sort}
 use Rattle.lists.proofs.Tests.{iff, and-l, and-r, and-both}
 use Rattle.lists.proofs.All.{all-at, all-range, all-follows, all-and, map-getD}
 use Rattle.lists.proofs.Count.{all-map, all-flatMap}
 use Rattle.lists.proofs.Sort.{ascends-tail, ascends-above, sort-ascending}
-use Rattle.graph.specs.Graph.{Edge, Graph, Direction, forward, backward, near, far, entry, key}
-use Rattle.graph.specs.Store.{usedWords, sideAt, listIn, edgeOf, graphIn, offsets, entries, storeOf, storeSize, storeFault}
-use Rattle.graph.proofs.WellFormed.{WellFormed, Fitting, fitting, edge-fitting, formed-well}
+use Rattle.graph.specs.Graph.{Edge, Graph, Direction, forward, backward, key}
+use Rattle.graph.specs.Store.{usedWords, listIn, edgeOf, graphIn, offsets, entries, storeOf, storeFault}
+use Rattle.graph.proofs.WellFormed.{WellFormed, fitting, edge-fitting, formed-well}
 use Rattle.graph.proofs.Maps.{map-under}
 use Rattle.graph.proofs.Keys.{keys-ascend, keys-below}
 use Rattle.graph.proofs.Parts.{offset, side, store-shape}
 use Rattle.graph.proofs.StoreGraph.{store-accepted}
-use Rattle.store.specs.Side.{listOn, Within, verticesIn, edgesIn, sideIn}
+use Rattle.store.specs.Side.{listOn, verticesIn, edgesIn, sideIn}
 use Rattle.store.specs.Check.{countsFit, labelsFit, offsetsFit, offsetsOn, listFits, sideFits, member, mirror, listMirrored, sideMirrored, turned}
 use Rattle.store.proofs.Members.{member-sort}
 use Rattle.store.proofs.Ascending.{ascending-members}
 use Rattle.store.proofs.Accepted.{side-ends}
-use Rattle.store.proofs.Offsets.{Rising, offsets-rising, offsets-within, offsets-lists, offsets-length}
+use Rattle.store.proofs.Offsets.{Rising, offsets-rising, offsets-lists, offsets-length}
 use Rattle.store.proofs.KeyLists.{map-flatMap, keyAt, keysOf, Fit, keys-entries, keys-ascending, keys-before, pair-some, some-pair}
 
 -- The tests, all passed.
