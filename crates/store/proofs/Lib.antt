@@ -9,3 +9,4 @@ pub mod KeyLists
 pub mod Offsets
 pub mod Spelt
 pub mod Tested
+pub mod Loops

@@ -1,14 +1,19 @@
 -- The parts of refusal 19, as the store check tests them: counts and labels in their ranges, offsets that rise from 0 to M,
 -- lists that ascend, and each entry mirrored on the other side. Assumes nothing.
-use mathlib.Core.Bool.{Bool, false, _&&_}
+use mathlib.Core.Bool.{Bool, false, not, _&&_}
 use mathlib.Core.List.{List, [], _∷_}
 use Prim.Native.Nat.{ℕ, suc, _+_, _-_, _%_}
 use lib.Dec.{eqb, leb, ltb}
 use lib.ListN.{length, take, drop}
 use Rattle.lists.specs.Lists.{range, all, any, ascendsFrom}
+use Rattle.lists.specs.Refusal.{refuse}
 use Rattle.graph.specs.Graph.{Direction, forward, backward}
 use Rattle.graph.specs.Store.{usedWords}
 use Rattle.store.specs.Side.{listOn, verticesIn, edgesIn}
+
+-- 19 unless a test passes.
+abbrev pub unless : Bool → ℕ
+unless b = refuse 19 (not b)
 
 -- The counts are within their limits, and the words that they tell are there.
 unfoldable pub countsFit : List ℕ → Bool
