@@ -7,6 +7,8 @@ pub mod Accepted
 pub mod Between
 pub mod KeyLists
 pub mod Offsets
+pub mod Found
+pub mod Fits
 pub mod Spelt
 pub mod Tested
 pub mod Loops

@@ -26,6 +26,7 @@ use Rattle.store.specs.Check.{countsFit, labelsFit, offsetsFit, offsetsO
 use Rattle.store.proofs.Members.{member-sort}
 use Rattle.store.proofs.Ascending.{ascending-members}
 use Rattle.store.proofs.Accepted.{side-ends}
+use Rattle.store.proofs.Fits.{goodEntry, Entry, good-entry, fit-entries, fit-ascending}
 use Rattle.store.proofs.Offsets.{Rising, offsets-rising, offsets-lists, offsets-length}
 use Rattle.store.proofs.KeyLists.{map-flatMap, keyAt, keysOf, Fit, keys-entries, keys-ascending, keys-before, pair-some, some-pair}
 
@@ -59,35 +60,6 @@ counts-fit store e =
 -- The list of v on the side of a direction.
 abbrev pub listTo : List ℕ → Direction → ℕ → List ℕ
 listTo store d v = listOn store (verticesIn store) (sideIn d store) v
-
--- A list that fits: its entries have labels 1 to 255 and neighbours below n.
-abbrev goodEntry : ℕ → ℕ → Bool
-goodEntry n k = ltb 65535 k && (ltb k 16777216 && ltb (k % 65536) n)
-
-list-entries : (n : ℕ) (s : List ℕ) → listFits n s ≡ true → all (goodEntry n) s ≡ true
-unfolding listFits
-list-entries n s e =
-    all-and (λ (k : ℕ). ltb 65535 k) (λ (k : ℕ). ltb k 16777216 && ltb (k % 65536) n) s
-    ∙ and-both (all (λ (k : ℕ). ltb 65535 k) s) (all (λ (k : ℕ). ltb k 16777216 && ltb (k % 65536) n) s)
-    (ascends-above 65535 s (and-l (ascendsFrom 65535 s) (all (λ (k : ℕ). ltb k 16777216 && ltb (k % 65536) n) s) e))
-    (and-r (ascendsFrom 65535 s) (all (λ (k : ℕ). ltb k 16777216 && ltb (k % 65536) n) s) e)
-
-list-ascending : (n : ℕ) (s : List ℕ) → listFits n s ≡ true → ascending s ≡ true
-unfolding listFits ascending
-list-ascending n s e = ascends-tail 65535 s (and-l (ascendsFrom 65535 s) (all (λ (k : ℕ). ltb k 16777216 && ltb (k % 65536) n) s) e)
-
-record Entry (n k : ℕ) : Type 0 where
-  given : 65535 < k
-  fits : k < 16777216
-  inside : k % 65536 < n
-
-good-entry : (n k : ℕ) → goodEntry n k ≡ true → Entry n k
-good-entry n k t =
-    record {
-      given = ltb-true 65535 k (search conj);
-      fits = ltb-true k 16777216 (search conj);
-      inside = ltb-true (k % 65536) n (search conj);
-    }
 
 -- The words that `graphIn` reads are the forward lists.
 list-in : (store : List ℕ) (v : ℕ) → listIn store v ≡ listTo store forward v
@@ -137,11 +109,11 @@ module _ (store : List ℕ) (passed : Passed store) where
 
   list-good : (d : Direction) (v : ℕ) → v < n → all (goodEntry n) (listTo store d v) ≡ true
   unfolding sideFits
-  list-good d v h = list-entries n (listTo store d v) (all-at (λ (v : ℕ). listFits n (listTo store d v)) n (passed .lists d) v h)
+  list-good d v h = fit-entries n (listTo store d v) (all-at (λ (v : ℕ). listFits n (listTo store d v)) n (passed .lists d) v h)
 
   list-up : (d : Direction) (v : ℕ) → v < n → ascending (listTo store d v) ≡ true
   unfolding sideFits
-  list-up d v h = list-ascending n (listTo store d v) (all-at (λ (v : ℕ). listFits n (listTo store d v)) n (passed .lists d) v h)
+  list-up d v h = fit-ascending n (listTo store d v) (all-at (λ (v : ℕ). listFits n (listTo store d v)) n (passed .lists d) v h)
 
   list-fit : (d : Direction) → Fit (listTo store d) n
   list-fit d v h =

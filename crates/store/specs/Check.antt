@@ -1,15 +1,16 @@
 -- The parts of refusal 19, as the store check tests them: counts and labels in their ranges, offsets that rise from 0 to M,
 -- lists that ascend, and each entry mirrored on the other side. Assumes nothing.
-use mathlib.Core.Bool.{Bool, false, not, _&&_}
+use mathlib.Core.Path.{_≡_}
+use mathlib.Core.Bool.{Bool, true, false, not, _&&_}
 use mathlib.Core.List.{List, [], _∷_}
-use Prim.Native.Nat.{ℕ, suc, _+_, _-_, _%_}
+use Prim.Native.Nat.{ℕ, suc, _+_, _-_, _%_, _<_}
 use lib.Dec.{eqb, leb, ltb}
 use lib.ListN.{length, take, drop}
 use Rattle.lists.specs.Lists.{range, all, any, ascendsFrom}
 use Rattle.lists.specs.Refusal.{refuse}
 use Rattle.graph.specs.Graph.{Direction, forward, backward}
 use Rattle.graph.specs.Store.{usedWords}
-use Rattle.store.specs.Side.{listOn, verticesIn, edgesIn}
+use Rattle.store.specs.Side.{listOn, Within, verticesIn, edgesIn}
 
 -- 19 unless a test passes.
 abbrev pub unless : Bool → ℕ
@@ -43,6 +44,11 @@ listFits n s = ascendsFrom 65535 s && all (λ (k : ℕ). ltb k 16777216 && ltb (
 
 unfoldable pub sideFits : List ℕ → ℕ → ℕ → Bool
 sideFits store n side = all (λ (v : ℕ). listFits n (listOn store n side v)) (range n)
+
+-- A side whose lists lie in the store and fit.
+pub record GoodSide (store : List ℕ) (n side : ℕ) : Type 0 where
+  pub within : (v : ℕ) → v < n → Within store n side v
+  pub fits : sideFits store n side ≡ true
 
 -- x is one of the words.
 abbrev pub member : ℕ → List ℕ → Bool

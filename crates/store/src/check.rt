@@ -9,7 +9,7 @@ ghost use lib.Dec.{ltb};
 ghost use lib.ListN.{length};
 ghost use Rattle.lists.specs.Lists.{all, ascending};
 ghost use Rattle.store.specs.Side.{Within};
-ghost use Rattle.store.specs.Check.{unless, member, offsetsFit, listFits, sideFits, listMirrored, sideMirrored};
+ghost use Rattle.store.specs.Check.{unless, member, offsetsFit, listFits, sideFits, GoodSide, listMirrored, sideMirrored};
 
 // 19 where a word is not below an end, else 0.
 fn words_fault(part: &[u32], end: u32) -> u32
@@ -79,6 +79,62 @@ fn side_fault(store: &[u32], n: usize, side: usize) -> u32
     let mut v = 0;
     while v < n {
         let fault = list_fault(neighbours(store, n, side, v), n);
+        if fault != 0 {
+            return fault;
+        }
+        v += 1;
+    }
+    0
+}
+
+// 19 where an ascending list lacks a word, else 0.
+fn absent_fault(list: &[u32], x: u32) -> u32
+    requires { ⌜ ascending (now list) ≡ true ⌝ }
+    ensures { λ r. ⌜ r ≡ unless (member x (now (list .entry))) ⌝ }
+{
+    let i = lower_bound(list, x);
+    if i == list.len() {
+        return 19;
+    }
+    if list[i] != x {
+        return 19;
+    }
+    0
+}
+
+// 19 where an entry of vertex v lacks its mirror on the other side: its neighbour's entry of the same label and v; else 0.
+fn mirror_fault(store: &[u32], n: usize, other: usize, v: usize, list: &[u32]) -> u32
+    requires { ⌜ GoodSide (now store) n other ⌝ }
+    requires { ⌜ listFits n (now list) ≡ true ⌝ }
+    requires { ⌜ (v < n) × (n < 65536) ⌝ }
+    ensures { λ r. ⌜ r ≡ unless (listMirrored (now (store .entry)) n other v (now (list .entry))) ⌝ }
+{
+    let mut i = 0;
+    while i < list.len() {
+        let entry = list[i];
+        let x = entry % Graph::SPAN;
+        let fault = absent_fault(
+            neighbours(store, n, other, x as usize),
+            entry - x + v as u32,
+        );
+        if fault != 0 {
+            return fault;
+        }
+        i += 1;
+    }
+    0
+}
+
+// 19 unless every entry of a side is mirrored on the other; else 0.
+fn mirrors_fault(store: &[u32], n: usize, side: usize, other: usize) -> u32
+    requires { ⌜ GoodSide (now store) n side ⌝ }
+    requires { ⌜ GoodSide (now store) n other ⌝ }
+    requires { ⌜ n < 65536 ⌝ }
+    ensures { λ r. ⌜ r ≡ unless (sideMirrored (now (store .entry)) n side other) ⌝ }
+{
+    let mut v = 0;
+    while v < n {
+        let fault = mirror_fault(store, n, other, v, neighbours(store, n, side, v));
         if fault != 0 {
             return fault;
         }
