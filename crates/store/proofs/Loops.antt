@@ -12,7 +12,7 @@ use lib.Seq.{drop-cons}
 use borrow.Author.Tests.{eqb-true, eq-eqb, ne-eqb, lt-ltb, le-ltb, le-leb, lt-leb}
 use Rattle.lists.specs.Lists.{range, all, ascendsFrom}
 use Rattle.lists.proofs.Tests.{clash, fails, and-both}
-use Rattle.lists.proofs.All.{all-at, all-append}
+use Rattle.lists.proofs.All.{all-at, all-append, all-getD}
 use Rattle.store.specs.Check.{unless, risesTo, offsetsFit, listFits}
 
 -- ---- refusals
@@ -56,6 +56,14 @@ all-next {p} {s} {i} a h t = record { inside = omega arith; left = a .left ∙ a
 pub all-stop : {p : ℕ → Bool} {s : List ℕ} {i : ℕ} → AllFrom p s i → i < length s → p (getD s i 0) ≡ false → 19 ≡ unless (all p s)
 unfolding all
 all-stop {p} {s} {i} a h t = refused (a .left ∙ ap (all p) (rest s h) ∙ ap (λ (b : Bool). b && all p (drop (i + 1) s)) t)
+
+-- The same where the test of a word is another function's answer.
+pub all-goes : {p : ℕ → Bool} {s : List ℕ} {i : ℕ} → AllFrom p s i → i < length s → {r : ℕ} → r ≡ unless (p (getD s i 0)) → r ≡ 0 → AllFrom p s (i + 1)
+all-goes {p} {s} {i} a h e z = all-next a h (answer-passes (p (getD s i 0)) e z)
+
+pub all-halts : {p : ℕ → Bool} {s : List ℕ} {i : ℕ} → AllFrom p s i → i < length s → {r : ℕ} → r ≡ unless (p (getD s i 0)) → (r ≡ 0 → ⊥)
+    → r ≡ unless (all p s)
+all-halts {p} {s} {i} a h e z = answer-hands (p (getD s i 0)) (all p s) e z (λ t. all-getD p s i 0 h t)
 
 pub all-end : {p : ℕ → Bool} {s : List ℕ} {i : ℕ} → AllFrom p s i → length s ≤ i → 0 ≡ unless (all p s)
 unfolding all

@@ -1,3 +1,15 @@
+-- `store::check::mirror_fault` meets its contract: the entries before i have their mirrors. Assumes nothing.
+use mathlib.Core.Path.{_∙_, ap}
+use mathlib.Core.List.{List}
+use Prim.Native.Nat.{ℕ, _-_, _%_}
+use native.Mathlib.Omega.{arith}
+use lib.ListN.{length, getD}
+use denote.Ref.{now}
+use Rattle.lists.specs.Lists.{ascending}
+use Rattle.store.specs.Side.{listOn}
+use Rattle.store.specs.Check.{unless, member, mirror, listMirrored}
+use Rattle.store.proofs.Loops.{AllFrom, all-start, all-goes, all-halts, all-end}
+use Rattle.store.proofs.Fits.{fit-entry, side-ascends}
 use Rattle.store.proofs.check.mirror_fault.Statement.{statement}
 use Rattle.store.proofs.check.mirror_fault.Tie as tie
 use Rattle.store.proofs.check.mirror_fault.Reads as reads
@@ -6,66 +18,59 @@ use Rattle.store.proofs.check.absent_fault.Reads as absent-fault-reads
 use Rattle.store.proofs.neighbours.Reads as neighbours-reads
 
 abbrev Inv-loop : tie.InvT-loop
-Inv-loop store n other v list i₀ i = ?
+Inv-loop store n other v list i₀ i = AllFrom (λ (k : ℕ). member (mirror v k) (listOn store n other (k % 65536))) list i
 
 abbrev μ-loop : tie.MeasureT-loop
-μ-loop store n other v list i₀ i = ?
+μ-loop store n other v list i₀ i = length list - i
 
--- src/check.rt:113:5
 loop-holds : tie.Need-loop-holds Inv-loop μ-loop
-loop-holds c = ?
+loop-holds c = all-start
 
--- src/check.rt:114:21
 mul-entry : tie.Need-mul-entry Inv-loop μ-loop
-mul-entry c = ?
+mul-entry c = omega arith
 
--- src/check.rt:114:21
 shared-slice-read-entry : tie.Need-shared-slice-read-entry Inv-loop μ-loop
-shared-slice-read-entry c = ?
+shared-slice-read-entry c = omega arith
 
--- src/check.rt:117:41
 cast-neighbours : tie.Need-cast-neighbours Inv-loop μ-loop
-cast-neighbours c = ?
+cast-neighbours c = omega arith
 
--- src/check.rt:117:13
 neighbours-requires : tie.Need-neighbours-requires Inv-loop μ-loop
-neighbours-requires c κs = ?
+neighbours-requires c κs = c .before .before .before .before .before .pre .0 .within ((getD (now (c .before .before .before .before .before .args .list)) (c .before .before .loop .i) 0) % 65536) (fit-entry (c .before .before .before .before .before .args .n) (now (c .before .before .before .before .before .args .list)) (c .before .before .loop .i) (c .before .before .before .before .before .pre .1 .0) (omega arith) .inside)
 
--- src/check.rt:118:13
 sub-absent-fault : tie.Need-sub-absent-fault Inv-loop μ-loop
-sub-absent-fault c = ?
+sub-absent-fault c = omega arith
 
--- src/check.rt:118:25
 cast-absent-fault : tie.Need-cast-absent-fault Inv-loop μ-loop
-cast-absent-fault c = ?
+cast-absent-fault c = omega arith
 
--- src/check.rt:118:13
 add-absent-fault : tie.Need-add-absent-fault Inv-loop μ-loop
-add-absent-fault c = ?
+add-absent-fault c = omega (arith, fit-entry (c .before .before .before .before .before .before .args .n) (now (c .before .before .before .before .before .before .args .list)) (c .before .before .before .loop .i) (c .before .before .before .before .before .before .pre .1 .0) (omega arith))
 
--- src/check.rt:116:13
 absent-fault-requires : tie.Need-absent-fault-requires Inv-loop μ-loop
-absent-fault-requires c κs = ?
+absent-fault-requires c κs =
+    ap ascending (c .neighbours .ensures) ∙ side-ascends (c .before .before .before .before .before .before .pre .0) ((getD (now (c .before .before .before .before .before .before .args .list)) (c .before .before .before .loop .i) 0) % 65536) (fit-entry (c .before .before .before .before .before .before .args .n) (now (c .before .before .before .before .before .before .args .list)) (c .before .before .before .loop .i) (c .before .before .before .before .before .before .pre .1 .0) (omega arith) .inside)
 
--- src/check.rt:121:13
 returns : tie.Need-returns Inv-loop μ-loop
-returns c = ?
+unfolding listMirrored
+returns c =
+    all-halts (c .before .before .before .before .before .loop .inv) (omega arith)
+    (c .before .absent-fault .ensures ∙ ap (λ (l : List ℕ). unless (member (mirror (c .before .before .before .before .before .before .before .before .args .v) (getD (now (c .before .before .before .before .before .before .before .before .args .list)) (c .before .before .before .before .before .loop .i) 0)) l)) (c .before .before .neighbours .ensures)) (c .if1 .taken)
 
--- src/check.rt:123:9
 add-i : tie.Need-add-i Inv-loop μ-loop
-add-i c = ?
+add-i c = omega arith
 
--- src/check.rt:113:5
 loop-less : tie.Need-loop-less Inv-loop μ-loop
-loop-less c = ?
+loop-less c = omega arith
 
--- src/check.rt:113:5
 loop-again : tie.Need-loop-again Inv-loop μ-loop
-loop-again c = ?
+loop-again c =
+    all-goes (c .before .before .before .before .before .loop .inv) (omega arith)
+    (c .before .absent-fault .ensures ∙ ap (λ (l : List ℕ). unless (member (mirror (c .before .before .before .before .before .before .before .before .args .v) (getD (now (c .before .before .before .before .before .before .before .before .args .list)) (c .before .before .before .before .before .loop .i) 0)) l)) (c .before .before .neighbours .ensures)) (c .if1 .left)
 
--- src/check.rt:106:1
 returns-2 : tie.Need-returns-2 Inv-loop μ-loop
-returns-2 c = ?
+unfolding listMirrored
+returns-2 c = all-end (c .before .loop .inv) (omega arith)
 
 pub mirror-fault-spec : {M : Type 1} → statement M
 mirror-fault-spec =
