@@ -10,7 +10,7 @@ use Rattle.lists.proofs.Tests.{and-l, and-r, and-both}
 use Rattle.lists.proofs.All.{all-at, all-and, all-getD}
 use Rattle.lists.proofs.Sort.{ascends-tail, ascends-above}
 use lib.ListN.{length, getD}
-use Rattle.store.specs.Side.{listOn, Within}
+use Rattle.store.specs.Side.{listOn}
 use Rattle.store.specs.Check.{listFits, sideFits, GoodSide}
 
 ruleset conj = (and-l, and-r)

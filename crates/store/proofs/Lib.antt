@@ -7,8 +7,10 @@ pub mod Accepted
 pub mod Between
 pub mod KeyLists
 pub mod Offsets
+pub mod Loops
+pub mod Counting
 pub mod Found
 pub mod Fits
 pub mod Spelt
 pub mod Tested
-pub mod Loops
+pub mod Decided

@@ -71,7 +71,7 @@ module _ (store : List ℕ) (n m side : ℕ) (room : side + n + 1 + m ≤ length
   offset-word v h = getD-take (suc n) (drop side store) v 0 (omega arith) ∙ getD-drop side store v 0
 
   pub offsets-rising : offsetsFit m (offsetsOn store n side) ≡ true → Rising m n (λ (v : ℕ). getD store (side + v) 0)
-  offsets-rising e = 
+  offsets-rising e =
       let r : Rising m n (λ (v : ℕ). getD (offsetsOn store n side) v 0) = fit-rising m n (offsetsOn store n side) length-offsets e in
       record {
         starts = sym (offset-word 0 zero-le) ∙ r .starts;

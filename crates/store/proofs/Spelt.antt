@@ -8,12 +8,12 @@ use native.Mathlib.Omega.{arith}
 use lib.Dec.{ltb}
 use lib.ListN.{length, getD, take, drop, length-map, length-drop, take-append-drop}
 use lib.Seq.{length-take-le, getD-drop, drop-cons, drop-drop}
-use borrow.Author.Tests.{ltb-true, lt-ltb, leb-true}
-use Rattle.lists.specs.Lists.{range, all, count, ascendsFrom, ascending, sort}
+use borrow.Author.Tests.{ltb-true, lt-ltb}
+use Rattle.lists.specs.Lists.{range, all, count, ascending, sort}
 use Rattle.lists.proofs.Tests.{iff, and-l, and-r, and-both}
 use Rattle.lists.proofs.All.{all-at, all-range, all-follows, all-and, map-getD}
 use Rattle.lists.proofs.Count.{all-map, all-flatMap}
-use Rattle.lists.proofs.Sort.{ascends-tail, ascends-above, sort-ascending}
+use Rattle.lists.proofs.Sort.{sort-ascending}
 use Rattle.graph.specs.Graph.{Edge, Graph, Direction, forward, backward, key}
 use Rattle.graph.specs.Store.{usedWords, listIn, edgeOf, graphIn, offsets, entries, storeOf, storeFault}
 use Rattle.graph.proofs.WellFormed.{WellFormed, fitting, edge-fitting, formed-well}
@@ -26,6 +26,7 @@ use Rattle.store.specs.Check.{countsFit, labelsFit, offsetsFit, offsetsO
 use Rattle.store.proofs.Members.{member-sort}
 use Rattle.store.proofs.Ascending.{ascending-members}
 use Rattle.store.proofs.Accepted.{side-ends}
+use Rattle.store.proofs.Counting.{Counts, counts-fit}
 use Rattle.store.proofs.Fits.{goodEntry, Entry, good-entry, fit-entries, fit-ascending}
 use Rattle.store.proofs.Offsets.{Rising, offsets-rising, offsets-lists, offsets-length}
 use Rattle.store.proofs.KeyLists.{map-flatMap, keyAt, keysOf, Fit, keys-entries, keys-ascending, keys-before, pair-some, some-pair}
@@ -37,25 +38,6 @@ pub record Passed (store : List ℕ) : Type 0 where
   pub offsets : (d : Direction) → offsetsFit (edgesIn store) (offsetsOn store (verticesIn store) (sideIn d store)) ≡ true
   pub lists : (d : Direction) → sideFits store (verticesIn store) (sideIn d store) ≡ true
   pub mirrors : (d : Direction) → sideMirrored store (verticesIn store) (sideIn d store) (sideIn (turned d) store) ≡ true
-
--- Counts that fit.
-ruleset conj = (and-l, and-r)
-
-pub record Counts (store : List ℕ) : Type 0 where
-  pub named : 2 ≤ length store
-  pub few-vertices : verticesIn store < 65536
-  pub few-edges : edgesIn store < 1048576
-  pub room : usedWords (verticesIn store) (edgesIn store) ≤ length store
-
-pub counts-fit : (store : List ℕ) → countsFit store ≡ true → Counts store
-unfolding countsFit
-counts-fit store e =
-    record {
-      named = leb-true 2 (length store) (search conj);
-      few-vertices = ltb-true (verticesIn store) 65536 (search conj);
-      few-edges = ltb-true (edgesIn store) 1048576 (search conj);
-      room = leb-true (usedWords (verticesIn store) (edgesIn store)) (length store) (search conj);
-    }
 
 -- The list of v on the side of a direction.
 abbrev pub listTo : List ℕ → Direction → ℕ → List ℕ

@@ -6,7 +6,7 @@ use Prim.Native.Nat.{ℕ, suc, _+_, _%_, _≤_, _<_}
 use native.Mathlib.Omega.{arith}
 use lib.Dec.{eqb, ltb}
 use lib.ListN.{length, getD}
-use borrow.Author.Tests.{eqb-true, eq-eqb, ltb-true, lt-ltb, le-ltb, le-leb}
+use borrow.Author.Tests.{eqb-true, eq-eqb, ltb-true, lt-ltb, le-ltb}
 use Rattle.lists.specs.Lists.{_⇒_, all, ascendsFrom}
 use Rattle.lists.proofs.Tests.{and-both, imp-intro, eqb-refl}
 use Rattle.lists.proofs.All.{all-mem, mem-all, mem-any, all-range, all-follows, all-under, all-and}
@@ -21,6 +21,7 @@ use Rattle.store.specs.Check.{countsFit, labelsFit, listFits, sideFits, 
 use Rattle.store.specs.Portion.{listOf}
 use Rattle.store.proofs.Listed.{list-all, list-any, list-ascends, entries-given, entries-fit, entries-in}
 use Rattle.store.proofs.Accepted.{side-ends, graph-formed, store-length, store-edges, offset-in, list-within, list-on}
+use Rattle.store.proofs.Counting.{fit-counts}
 use Rattle.store.proofs.Offsets.{Rising, rising-offsets}
 use Rattle.store.proofs.Spelt.{Passed, listTo}
 
@@ -73,14 +74,10 @@ module _ (store : List ℕ) (accepted : storeFault store ≡ 0) where
   used = rw (store-edges store accepted) (store-length store accepted)
 
   counts-pass : countsFit store ≡ true
-  unfolding countsFit graphIn
+  unfolding graphIn
   counts-pass =
-      rw (
-        le-leb 2 (length store) (omega (arith, used)),
-        lt-ltb (verticesIn store) 65536 (formed .few-vertices),
-        lt-ltb (edgesIn store) 1048576 (rw (store-edges store accepted) (formed .few-edges)),
-        le-leb (usedWords (verticesIn store) (edgesIn store)) (length store) used,
-      )
+      fit-counts store
+      (record { named = omega (arith, used); few-vertices = formed .few-vertices; few-edges = rw (store-edges store accepted) (formed .few-edges); room = used })
 
   -- The offsets of a direction rise from 0 to M.
   offsets-rise : (d : Direction) → Rising (edgesIn store) (verticesIn store) (λ (v : ℕ). getD store (sideIn d store + v) 0)

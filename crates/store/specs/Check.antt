@@ -10,7 +10,7 @@ use Rattle.lists.specs.Lists.{range, all, any, ascendsFrom}
 use Rattle.lists.specs.Refusal.{refuse}
 use Rattle.graph.specs.Graph.{Direction, forward, backward}
 use Rattle.graph.specs.Store.{usedWords}
-use Rattle.store.specs.Side.{listOn, Within, verticesIn, edgesIn}
+use Rattle.store.specs.Side.{listOn, Within, verticesIn, edgesIn, sideIn}
 
 -- 19 unless a test passes.
 abbrev pub unless : Bool → ℕ
@@ -45,6 +45,10 @@ listFits n s = ascendsFrom 65535 s && all (λ (k : ℕ). ltb k 16777216 && ltb (
 unfoldable pub sideFits : List ℕ → ℕ → ℕ → Bool
 sideFits store n side = all (λ (v : ℕ). listFits n (listOn store n side v)) (range n)
 
+-- A side of m entries: its offsets, and its lists.
+abbrev pub sideGood : List ℕ → ℕ → ℕ → ℕ → Bool
+sideGood store n m side = offsetsFit m (offsetsOn store n side) && sideFits store n side
+
 -- A side whose lists lie in the store and fit.
 pub record GoodSide (store : List ℕ) (n side : ℕ) : Type 0 where
   pub within : (v : ℕ) → v < n → Within store n side v
@@ -69,3 +73,11 @@ sideMirrored store n side other = all (λ (v : ℕ). listMirrored store n other 
 abbrev pub turned : Direction → Direction
 turned forward = backward
 turned backward = forward
+
+-- The counts of a store whose counts fit, and where its sides begin.
+pub record Counted (store : List ℕ) (n m one two : ℕ) : Type 0 where
+  pub counts : countsFit store ≡ true
+  pub vertices : n ≡ verticesIn store
+  pub edges : m ≡ edgesIn store
+  pub forward-at : one ≡ sideIn forward store
+  pub backward-at : two ≡ sideIn backward store

@@ -4,12 +4,13 @@ use graph::Graph;
 use search::lower_bound;
 ghost use mathlib.Core.Path.{_≡_};
 ghost use mathlib.Core.Bool.{true};
-ghost use Prim.Native.Nat.{ℕ, _%_, _≤_, _<_};
+ghost use Prim.Native.Nat.{ℕ, _+_, _≤_, _<_};
 ghost use lib.Dec.{ltb};
 ghost use lib.ListN.{length};
 ghost use Rattle.lists.specs.Lists.{all, ascending};
+ghost use Rattle.graph.specs.Store.{storeFault};
 ghost use Rattle.store.specs.Side.{Within};
-ghost use Rattle.store.specs.Check.{unless, member, offsetsFit, listFits, sideFits, GoodSide, listMirrored, sideMirrored};
+ghost use Rattle.store.specs.Check.{unless, countsFit, member, offsetsFit, listFits, sideFits, sideGood, GoodSide, listMirrored, sideMirrored, Counted};
 
 // 19 where a word is not below an end, else 0.
 fn words_fault(part: &[u32], end: u32) -> u32
@@ -72,7 +73,7 @@ fn list_fault(list: &[u32], n: usize) -> u32
 }
 
 // 19 unless every list of a side is as it should be; else 0.
-fn side_fault(store: &[u32], n: usize, side: usize) -> u32
+fn lists_fault(store: &[u32], n: usize, side: usize) -> u32
     requires { ⌜ ((v : ℕ) → v < n → Within (now store) n side v) ⌝ }
     ensures { λ r. ⌜ r ≡ unless (sideFits (now (store .entry)) n side) ⌝ }
 {
@@ -85,6 +86,18 @@ fn side_fault(store: &[u32], n: usize, side: usize) -> u32
         v += 1;
     }
     0
+}
+
+// 19 unless the offsets of a side and its lists are as they should be; else 0.
+fn side_fault(store: &[u32], n: usize, m: u32, side: usize) -> u32
+    requires { ⌜ side + n + 1 + m ≤ length (now store) ⌝ }
+    ensures { λ r. ⌜ r ≡ unless (sideGood (now (store .entry)) n m side) ⌝ }
+{
+    let fault = offsets_fault(&store[side..side + n + 1], m);
+    if fault != 0 {
+        return fault;
+    }
+    lists_fault(store, n, side)
 }
 
 // 19 where an ascending list lacks a word, else 0.
@@ -141,4 +154,60 @@ fn mirrors_fault(store: &[u32], n: usize, side: usize, other: usize) -> u32
         v += 1;
     }
     0
+}
+
+// 19 unless the counts of a store are within their limits and its words are there; else 0.
+fn counts_fault(store: &[u32]) -> u32
+    ensures { λ r. ⌜ r ≡ unless (countsFit (now (store .entry))) ⌝ }
+{
+    if store.len() < 2 {
+        return 19;
+    }
+    let g = Graph::of_store(store);
+    if Graph::MAX_VERTICES < g.vertices {
+        return 19;
+    }
+    if Graph::MAX_EDGES < g.edges {
+        return 19;
+    }
+    if store.len() < g.words() {
+        return 19;
+    }
+    0
+}
+
+// 19 where the labels or the sides of a store whose counts are right are not as they should be; else 0.
+fn sides_fault(store: &[u32], n: usize, m: u32, forward: usize, backward: usize) -> u32
+    requires { ⌜ Counted (now store) n m forward backward ⌝ }
+    ensures { λ r. ⌜ r ≡ storeFault (now (store .entry)) ⌝ }
+{
+    let labels = words_fault(&store[Graph::LABELS..forward], Graph::SPAN);
+    if labels != 0 {
+        return labels;
+    }
+    let one = side_fault(store, n, m, forward);
+    if one != 0 {
+        return one;
+    }
+    let two = side_fault(store, n, m, backward);
+    if two != 0 {
+        return two;
+    }
+    let mirrors = mirrors_fault(store, n, forward, backward);
+    if mirrors != 0 {
+        return mirrors;
+    }
+    mirrors_fault(store, n, backward, forward)
+}
+
+// 19 where no accepted graph file loads to this store, words past the used ones ignored; else 0.
+pub fn store_fault(store: &[u32]) -> u32
+    ensures { λ r. ⌜ r ≡ storeFault (now (store .entry)) ⌝ }
+{
+    let counts = counts_fault(store);
+    if counts != 0 {
+        return counts;
+    }
+    let g = Graph::of_store(store);
+    sides_fault(store, g.vertices, g.edges as u32, g.forward(), g.backward())
 }

@@ -9,9 +9,6 @@ use Rattle.store.proofs.Found.{absent-end, absent-other, present}
 use borrow.Author.Needs.{needs}
 use Rattle.store.proofs.check.absent_fault.Statement.{statement}
 use Rattle.store.proofs.check.absent_fault.Tie as tie
-use Rattle.store.proofs.check.absent_fault.Reads as reads
-use Rattle.store.proofs.check.absent_fault.Lts as lts
-use Rattle.search.proofs.lower_bound.Reads as lower-bound-reads
 
 lower-bound-requires : tie.Need-lower-bound-requires
 lower-bound-requires c κs = search needs

@@ -5,8 +5,6 @@ use lib.ListN.{length}
 use Rattle.store.proofs.Loops.{ListFrom, list-start, list-next, list-falls, list-wide, list-outside, list-end}
 use Rattle.store.proofs.check.list_fault.Statement.{statement}
 use Rattle.store.proofs.check.list_fault.Tie as tie
-use Rattle.store.proofs.check.list_fault.Reads as reads
-use Rattle.store.proofs.check.list_fault.Lts as lts
 
 abbrev Inv-loop : tie.InvT-loop
 Inv-loop list n last₀ i₀ last i = ListFrom n list last i

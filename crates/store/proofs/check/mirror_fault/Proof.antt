@@ -12,10 +12,6 @@ use Rattle.store.proofs.Loops.{AllFrom, all-start, all-goes, all-halts,
 use Rattle.store.proofs.Fits.{fit-entry, side-ascends}
 use Rattle.store.proofs.check.mirror_fault.Statement.{statement}
 use Rattle.store.proofs.check.mirror_fault.Tie as tie
-use Rattle.store.proofs.check.mirror_fault.Reads as reads
-use Rattle.store.proofs.check.mirror_fault.Lts as lts
-use Rattle.store.proofs.check.absent_fault.Reads as absent-fault-reads
-use Rattle.store.proofs.neighbours.Reads as neighbours-reads
 
 abbrev Inv-loop : tie.InvT-loop
 Inv-loop store n other v list i₀ i = AllFrom (λ (k : ℕ). member (mirror v k) (listOn store n other (k % 65536))) list i

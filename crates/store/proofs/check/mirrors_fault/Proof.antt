@@ -10,10 +10,6 @@ use Rattle.store.proofs.Loops.{AllBelow, below-start, below-next, below
 use Rattle.store.proofs.Fits.{side-list}
 use Rattle.store.proofs.check.mirrors_fault.Statement.{statement}
 use Rattle.store.proofs.check.mirrors_fault.Tie as tie
-use Rattle.store.proofs.check.mirrors_fault.Reads as reads
-use Rattle.store.proofs.check.mirrors_fault.Lts as lts
-use Rattle.store.proofs.check.mirror_fault.Reads as mirror-fault-reads
-use Rattle.store.proofs.neighbours.Reads as neighbours-reads
 
 abbrev Inv-loop : tie.InvT-loop
 Inv-loop store n side other v₀ v = AllBelow (λ (u : ℕ). listMirrored store n other u (listOn store n side u)) n v

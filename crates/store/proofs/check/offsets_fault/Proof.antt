@@ -6,8 +6,6 @@ use denote.Ref.{now}
 use Rattle.store.proofs.Loops.{OffsetsFrom, offsets-first, offsets-start, offsets-next, offsets-stop, offsets-short, offsets-end}
 use Rattle.store.proofs.check.offsets_fault.Statement.{statement}
 use Rattle.store.proofs.check.offsets_fault.Tie as tie
-use Rattle.store.proofs.check.offsets_fault.Reads as reads
-use Rattle.store.proofs.check.offsets_fault.Lts as lts
 
 abbrev Inv-loop : tie.InvT-loop
 Inv-loop part m last₀ i₀ last i = OffsetsFrom m part last i

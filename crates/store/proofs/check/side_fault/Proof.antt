@@ -1,66 +1,60 @@
--- `store::check::side_fault` meets its contract: the lists of the vertices below v fit. Assumes nothing.
-use mathlib.Core.Path.{_∙_, ap}
-use mathlib.Core.List.{List}
+-- `store::check::side_fault` meets its contract: where the offsets fit, the lists lie in the store and decide. Assumes nothing.
+use mathlib.Core.Path.{_∙_}
+use denote.Ref.{now}
+use Rattle.store.proofs.Offsets.{offsets-rising, offsets-within}
+use Rattle.store.proofs.Decided.{offsets-refused, offsets-pass, offsets-then}
 use borrow.Author.Needs.{needs}
-use Prim.Native.Nat.{ℕ, _-_}
-use native.Mathlib.Omega.{arith}
-use Rattle.store.specs.Side.{listOn}
-use Rattle.store.specs.Check.{unless, listFits, sideFits}
-use Rattle.store.proofs.Loops.{AllBelow, below-start, below-next, below-stop, below-end}
 use Rattle.store.proofs.check.side_fault.Statement.{statement}
 use Rattle.store.proofs.check.side_fault.Tie as tie
-use Rattle.store.proofs.check.side_fault.Reads as reads
-use Rattle.store.proofs.check.side_fault.Lts as lts
-use Rattle.store.proofs.check.list_fault.Reads as list-fault-reads
-use Rattle.store.proofs.neighbours.Reads as neighbours-reads
 
-abbrev Inv-loop : tie.InvT-loop
-Inv-loop store n side v₀ v = AllBelow (λ (u : ℕ). listFits n (listOn store n side u)) n v
+add-offsets-fault : tie.Need-add-offsets-fault
+add-offsets-fault c = search needs
 
-abbrev μ-loop : tie.MeasureT-loop
-μ-loop store n side v₀ v = n - v
+add-offsets-fault-2 : tie.Need-add-offsets-fault-2
+add-offsets-fault-2 c = search needs
 
-loop-holds : tie.Need-loop-holds Inv-loop μ-loop
-loop-holds c = below-start
+mul-offsets-fault : tie.Need-mul-offsets-fault
+mul-offsets-fault c = search needs
 
-neighbours-requires : tie.Need-neighbours-requires Inv-loop μ-loop
-neighbours-requires c κs = c .before .before .before .pre (c .before .loop .v) (omega arith)
+sub-offsets-fault : tie.Need-sub-offsets-fault
+sub-offsets-fault c = search needs
 
-list-fault-requires : tie.Need-list-fault-requires Inv-loop μ-loop
-list-fault-requires c κs = search needs
+part-offsets-fault-start : tie.Need-part-offsets-fault-start
+part-offsets-fault-start c = search needs
 
-returns : tie.Need-returns Inv-loop μ-loop
-unfolding sideFits
-returns c =
-    below-stop (c .before .before .before .before .loop .inv) (omega arith)
-    (c .before .list-fault .ensures ∙ ap (λ (l : List ℕ). unless (listFits (c .before .before .before .before .before .before .args .n) l)) (c .before .before .neighbours .ensures)) (c .if1 .taken)
+part-offsets-fault-end : tie.Need-part-offsets-fault-end
+part-offsets-fault-end c = search needs
 
-add-v : tie.Need-add-v Inv-loop μ-loop
-add-v c = omega arith
+offsets-fault-requires : tie.Need-offsets-fault-requires
+offsets-fault-requires c κs = search needs
 
-loop-less : tie.Need-loop-less Inv-loop μ-loop
-loop-less c = omega arith
+returns : tie.Need-returns
+returns c = offsets-refused (now (c .before .before .before .before .args .store)) (c .before .before .before .before .args .n) (c .before .before .before .before .args .m) (c .before .before .before .before .args .side) (c .before .offsets-fault .ensures) (c .if1 .taken)
 
-loop-again : tie.Need-loop-again Inv-loop μ-loop
-loop-again c =
-    below-next (c .before .before .before .before .loop .inv) (omega arith)
-    (c .before .list-fault .ensures ∙ ap (λ (l : List ℕ). unless (listFits (c .before .before .before .before .before .before .args .n) l)) (c .before .before .neighbours .ensures)) (c .if1 .left)
+lists-fault-requires : tie.Need-lists-fault-requires
+lists-fault-requires c κs =
+    let a = c .before .before .before .before in
+    offsets-within (now (a .args .store)) (a .args .n) (a .args .m) (a .args .side) (a .pre)
+    (offsets-rising (now (a .args .store)) (a .args .n) (a .args .m) (a .args .side) (a .pre)
+    (offsets-pass (now (a .args .store)) (a .args .n) (a .args .m) (a .args .side) (c .before .offsets-fault .ensures) (c .if1 .left)))
 
-returns-2 : tie.Need-returns-2 Inv-loop μ-loop
-unfolding sideFits
-returns-2 c = below-end (c .before .loop .inv) (omega arith)
+returns-2 : tie.Need-returns-2
+returns-2 c =
+    let a = c .before .before .before .before .before in
+    c .lists-fault .ensures
+    ∙ offsets-then (now (a .args .store)) (a .args .n) (a .args .m) (a .args .side) (c .before .before .offsets-fault .ensures) (c .before .if1 .left)
 
 pub side-fault-spec : {M : Type 1} → statement M
 side-fault-spec =
     tie.close
     (tie.spec
-    Inv-loop
-    μ-loop
-    loop-holds
-    neighbours-requires
-    list-fault-requires
+    add-offsets-fault
+    add-offsets-fault-2
+    mul-offsets-fault
+    sub-offsets-fault
+    part-offsets-fault-start
+    part-offsets-fault-end
+    offsets-fault-requires
     returns
-    add-v
-    loop-less
-    loop-again
+    lists-fault-requires
     returns-2)

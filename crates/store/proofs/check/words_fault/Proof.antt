@@ -7,8 +7,6 @@ use borrow.Author.Tests.{lt-ltb, le-ltb}
 use Rattle.store.proofs.Loops.{AllFrom, all-start, all-next, all-stop, all-end}
 use Rattle.store.proofs.check.words_fault.Statement.{statement}
 use Rattle.store.proofs.check.words_fault.Tie as tie
-use Rattle.store.proofs.check.words_fault.Reads as reads
-use Rattle.store.proofs.check.words_fault.Lts as lts
 
 abbrev Inv-loop : tie.InvT-loop
 Inv-loop part end i₀ i = AllFrom (λ (k : ℕ). ltb k end) part i

@@ -1,0 +1,115 @@
+-- The tests of the store check, taken together, are refusal 19. Assumes nothing.
+use mathlib.Core.Path.{_≡_, refl, sym, _∙_, ap}
+use mathlib.Core.Bool.{Bool, true, false, _&&_}
+use mathlib.Core.List.{List}
+use Prim.Native.Nat.{ℕ, suc, _+_, _-_, _≤_}
+use native.Mathlib.Omega.{arith}
+use lib.Dec.{ltb}
+use lib.ListN.{length, take, drop}
+use Rattle.lists.specs.Lists.{all, same}
+use Rattle.lists.proofs.Tests.{and-l, and-r, and-both}
+use Rattle.graph.specs.Graph.{Direction, forward, backward}
+use Rattle.graph.specs.Store.{graphIn, storeOf, storeSize, wellFormed, storeFault}
+use Rattle.store.specs.Side.{verticesIn, edgesIn, sideIn}
+use Rattle.store.specs.Check.{unless, countsFit, labelsFit, offsetsFit, offsetsOn, sideFits, sideGood, GoodSide, sideMirrored, turned, Counted}
+use Rattle.store.proofs.Counting.{counted-as}
+use Rattle.store.proofs.Offsets.{offsets-rising, offsets-within}
+use Rattle.store.proofs.Loops.{answer-hands, answer-passes}
+use Rattle.store.proofs.Spelt.{Passed, passed-accepted}
+use Rattle.store.proofs.Tested.{accepted-passed}
+
+-- ---- a side
+
+-- The answer to the test of the part of a store that holds a side's offsets.
+module _ (store : List ℕ) (n m side : ℕ) {r : ℕ} (e : r ≡ unless (offsetsFit m (take (side + n + 1 - side) (drop side store)))) where
+  answered : r ≡ unless (offsetsFit m (offsetsOn store n side))
+  answered = e ∙ ap (λ (k : ℕ). unless (offsetsFit m (take k (drop side store)))) (let i : side + n + 1 - side ≡ suc n = omega arith in i)
+
+  pub offsets-refused : (r ≡ 0 → ⊥) → r ≡ unless (sideGood store n m side)
+  offsets-refused h =
+      answer-hands (offsetsFit m (offsetsOn store n side)) (sideGood store n m side) answered h
+      (and-l (offsetsFit m (offsetsOn store n side)) (sideFits store n side))
+
+  pub offsets-pass : r ≡ 0 → offsetsFit m (offsetsOn store n side) ≡ true
+  offsets-pass z = answer-passes (offsetsFit m (offsetsOn store n side)) answered z
+
+  -- Then the lists decide.
+  pub offsets-then : r ≡ 0 → unless (sideFits store n side) ≡ unless (sideGood store n m side)
+  offsets-then z = ap (λ (b : Bool). unless (b && sideFits store n side)) (sym (offsets-pass z))
+
+pub good-side : (store : List ℕ) (n m side : ℕ) → side + n + 1 + m ≤ length store → sideGood store n m side ≡ true → GoodSide store n side
+good-side store n m side room t =
+    record {
+      within =
+          offsets-within store n m side room
+          (offsets-rising store n m side room (and-l (offsetsFit m (offsetsOn store n side)) (sideFits store n side) t));
+      fits = and-r (offsetsFit m (offsetsOn store n side)) (sideFits store n side) t;
+    }
+
+-- ---- the whole
+
+-- The tests that follow those of the counts, by the counts and by where the sides begin.
+pub record PassedAt (store : List ℕ) (n m one two : ℕ) : Type 0 where
+  pub labels : all (λ (l : ℕ). ltb l 65536) (take (one - 2) (drop 2 store)) ≡ true
+  pub there : sideGood store n m one ≡ true
+  pub back : sideGood store n m two ≡ true
+  pub mirrored-there : sideMirrored store n one two ≡ true
+  pub mirrored-back : sideMirrored store n two one ≡ true
+
+-- The labels, by where the forward side begins.
+labels-part : (store : List ℕ) → labelsFit store ≡ all (λ (l : ℕ). ltb l 65536) (take (sideIn forward store - 2) (drop 2 store))
+unfolding labelsFit
+labels-part store =
+    ap (λ (k : ℕ). all (λ (l : ℕ). ltb l 65536) (take k (drop 2 store))) (let e : verticesIn store ≡ sideIn forward store - 2 = omega arith in e)
+
+-- The tests of both directions.
+module _ {store : List ℕ} (k : countsFit store ≡ true) (p : PassedAt store (verticesIn store) (edgesIn store) (sideIn forward store) (sideIn backward store)) where
+  sides : (d : Direction) → sideGood store (verticesIn store) (edgesIn store) (sideIn d store) ≡ true
+  sides forward = p .there
+  sides backward = p .back
+
+  mirrored : (d : Direction) → sideMirrored store (verticesIn store) (sideIn d store) (sideIn (turned d) store) ≡ true
+  mirrored forward = p .mirrored-there
+  mirrored backward = p .mirrored-back
+
+  all-passed : Passed store
+  all-passed =
+      record {
+        counts = k;
+        labels = labels-part store ∙ p .labels;
+        offsets = λ d. and-l (offsetsFit (edgesIn store) (offsetsOn store (verticesIn store) (sideIn d store))) (sideFits store (verticesIn store) (sideIn d store)) (sides d);
+        lists = λ d. and-r (offsetsFit (edgesIn store) (offsetsOn store (verticesIn store) (sideIn d store))) (sideFits store (verticesIn store) (sideIn d store)) (sides d);
+        mirrors = mirrored;
+      }
+
+module _ {store : List ℕ} {n m one two : ℕ} (k : Counted store n m one two) where
+  pub passed-at : Passed store → PassedAt store n m one two
+  passed-at p =
+      counted-as k (PassedAt store)
+      (record {
+        labels = sym (labels-part store) ∙ p .labels;
+        there = side forward;
+        back = side backward;
+        mirrored-there = p .mirrors forward;
+        mirrored-back = p .mirrors backward;
+      })
+    where
+      side : (d : Direction) → sideGood store (verticesIn store) (edgesIn store) (sideIn d store) ≡ true
+      side d =
+          and-both (offsetsFit (edgesIn store) (offsetsOn store (verticesIn store) (sideIn d store))) (sideFits store (verticesIn store) (sideIn d store))
+          (p .offsets d) (p .lists d)
+
+  pub at-passed : PassedAt store n m one two → Passed store
+  at-passed = counted-as k (λ (a b c d : ℕ). PassedAt store a b c d → Passed store) (all-passed (k .counts))
+
+-- An answer other than 0 to a test that every accepted store passes is the refusal.
+pub refuses : (store : List ℕ) (b : Bool) {r : ℕ} → r ≡ unless b → (r ≡ 0 → ⊥) → (Passed store → b ≡ true) → r ≡ storeFault store
+unfolding storeFault
+refuses store b e h f =
+    answer-hands b (wellFormed (graphIn store) && same (take (storeSize (graphIn store)) store) (storeOf (graphIn store))) e h
+    (λ t. f (accepted-passed store (ap unless t)))
+
+-- The answer to the last test is the refusal.
+pub decides : (store : List ℕ) (b : Bool) {r : ℕ} → r ≡ unless b → (Passed store → b ≡ true) → (b ≡ true → Passed store) → r ≡ storeFault store
+decides store true e f g = e ∙ sym (passed-accepted store (g refl))
+decides store false {r} e f g = refuses store false e (λ z. omega arith) f
