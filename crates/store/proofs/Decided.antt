@@ -12,7 +12,7 @@ use Rattle.graph.specs.Graph.{Direction, forward, backward}
 use Rattle.graph.specs.Store.{graphIn, storeOf, storeSize, wellFormed, storeFault}
 use Rattle.store.specs.Side.{verticesIn, edgesIn, sideIn}
 use Rattle.store.specs.Check.{unless, countsFit, labelsFit, offsetsFit, offsetsOn, sideFits, sideGood, GoodSide, sideMirrored, turned, Counted}
-use Rattle.store.proofs.Counting.{counted-as}
+use Rattle.store.proofs.Counting.{counted-as, forward-room, backward-room}
 use Rattle.store.proofs.Offsets.{offsets-rising, offsets-within}
 use Rattle.store.proofs.Loops.{answer-hands, answer-passes}
 use Rattle.store.proofs.Spelt.{Passed, passed-accepted}
@@ -37,7 +37,7 @@ module _ (store : List ℕ) (n m side : ℕ) {r : ℕ} (e : r ≡ unless (offset
   pub offsets-then : r ≡ 0 → unless (sideFits store n side) ≡ unless (sideGood store n m side)
   offsets-then z = ap (λ (b : Bool). unless (b && sideFits store n side)) (sym (offsets-pass z))
 
-pub good-side : (store : List ℕ) (n m side : ℕ) → side + n + 1 + m ≤ length store → sideGood store n m side ≡ true → GoodSide store n side
+good-side : (store : List ℕ) (n m side : ℕ) → side + n + 1 + m ≤ length store → sideGood store n m side ≡ true → GoodSide store n side
 good-side store n m side room t =
     record {
       within =
@@ -48,19 +48,22 @@ good-side store n m side room t =
 
 -- ---- the whole
 
--- The tests that follow those of the counts, by the counts and by where the sides begin.
-pub record PassedAt (store : List ℕ) (n m one two : ℕ) : Type 0 where
-  pub labels : all (λ (l : ℕ). ltb l 65536) (take (one - 2) (drop 2 store)) ≡ true
-  pub there : sideGood store n m one ≡ true
-  pub back : sideGood store n m two ≡ true
-  pub mirrored-there : sideMirrored store n one two ≡ true
-  pub mirrored-back : sideMirrored store n two one ≡ true
+-- The labels stand before the forward side.
+abbrev pub labelsBefore : List ℕ → ℕ → Bool
+labelsBefore store one = all (λ (l : ℕ). ltb l 65536) (take (one - 2) (drop 2 store))
 
--- The labels, by where the forward side begins.
-labels-part : (store : List ℕ) → labelsFit store ≡ all (λ (l : ℕ). ltb l 65536) (take (sideIn forward store - 2) (drop 2 store))
+labels-part : (store : List ℕ) → labelsFit store ≡ labelsBefore store (sideIn forward store)
 unfolding labelsFit
 labels-part store =
     ap (λ (k : ℕ). all (λ (l : ℕ). ltb l 65536) (take k (drop 2 store))) (let e : verticesIn store ≡ sideIn forward store - 2 = omega arith in e)
+
+-- The tests that follow those of the counts, by the counts and by where the sides begin.
+record PassedAt (store : List ℕ) (n m one two : ℕ) : Type 0 where
+  labels : labelsBefore store one ≡ true
+  there : sideGood store n m one ≡ true
+  back : sideGood store n m two ≡ true
+  mirrored-there : sideMirrored store n one two ≡ true
+  mirrored-back : sideMirrored store n two one ≡ true
 
 -- The tests of both directions.
 module _ {store : List ℕ} (k : countsFit store ≡ true) (p : PassedAt store (verticesIn store) (edgesIn store) (sideIn forward store) (sideIn backward store)) where
@@ -83,7 +86,7 @@ module _ {store : List ℕ} (k : countsFit store ≡ true) (p : PassedAt store (
       }
 
 module _ {store : List ℕ} {n m one two : ℕ} (k : Counted store n m one two) where
-  pub passed-at : Passed store → PassedAt store n m one two
+  passed-at : Passed store → PassedAt store n m one two
   passed-at p =
       counted-as k (PassedAt store)
       (record {
@@ -99,7 +102,7 @@ module _ {store : List ℕ} {n m one two : ℕ} (k : Counted store n m one two) 
           and-both (offsetsFit (edgesIn store) (offsetsOn store (verticesIn store) (sideIn d store))) (sideFits store (verticesIn store) (sideIn d store))
           (p .offsets d) (p .lists d)
 
-  pub at-passed : PassedAt store n m one two → Passed store
+  at-passed : PassedAt store n m one two → Passed store
   at-passed = counted-as k (λ (a b c d : ℕ). PassedAt store a b c d → Passed store) (all-passed (k .counts))
 
 -- An answer other than 0 to a test that every accepted store passes is the refusal.
@@ -110,6 +113,46 @@ refuses store b e h f =
     (λ t. f (accepted-passed store (ap unless t)))
 
 -- The answer to the last test is the refusal.
-pub decides : (store : List ℕ) (b : Bool) {r : ℕ} → r ≡ unless b → (Passed store → b ≡ true) → (b ≡ true → Passed store) → r ≡ storeFault store
+decides : (store : List ℕ) (b : Bool) {r : ℕ} → r ≡ unless b → (Passed store → b ≡ true) → (b ≡ true → Passed store) → r ≡ storeFault store
 decides store true e f g = e ∙ sym (passed-accepted store (g refl))
 decides store false {r} e f g = refuses store false e (λ z. omega arith) f
+
+-- The answers in turn: where one is not 0 it is the refusal, and where it is 0 its test is passed.
+module _ {store : List ℕ} {n m one two : ℕ} (k : Counted store n m one two) {r : ℕ} where
+  pub labels-refuse : r ≡ unless (labelsBefore store one) → (r ≡ 0 → ⊥) → r ≡ storeFault store
+  labels-refuse e h = refuses store (labelsBefore store one) e h (λ p. passed-at k p .labels)
+
+  pub there-refuses : r ≡ unless (sideGood store n m one) → (r ≡ 0 → ⊥) → r ≡ storeFault store
+  there-refuses e h = refuses store (sideGood store n m one) e h (λ p. passed-at k p .there)
+
+  pub back-refuses : r ≡ unless (sideGood store n m two) → (r ≡ 0 → ⊥) → r ≡ storeFault store
+  back-refuses e h = refuses store (sideGood store n m two) e h (λ p. passed-at k p .back)
+
+  pub mirrors-refuse : r ≡ unless (sideMirrored store n one two) → (r ≡ 0 → ⊥) → r ≡ storeFault store
+  mirrors-refuse e h = refuses store (sideMirrored store n one two) e h (λ p. passed-at k p .mirrored-there)
+
+  pub labels-pass : r ≡ unless (labelsBefore store one) → r ≡ 0 → labelsBefore store one ≡ true
+  labels-pass e z = answer-passes (labelsBefore store one) e z
+
+  pub there-passes : r ≡ unless (sideGood store n m one) → r ≡ 0 → sideGood store n m one ≡ true
+  there-passes e z = answer-passes (sideGood store n m one) e z
+
+  pub back-passes : r ≡ unless (sideGood store n m two) → r ≡ 0 → sideGood store n m two ≡ true
+  back-passes e z = answer-passes (sideGood store n m two) e z
+
+  pub mirrors-pass : r ≡ unless (sideMirrored store n one two) → r ≡ 0 → sideMirrored store n one two ≡ true
+  mirrors-pass e z = answer-passes (sideMirrored store n one two) e z
+
+  -- The last one decides.
+  pub last-decides : r ≡ unless (sideMirrored store n two one) → labelsBefore store one ≡ true → sideGood store n m one ≡ true → sideGood store n m two ≡ true
+      → sideMirrored store n one two ≡ true → r ≡ storeFault store
+  last-decides e labels there back mirrored =
+      decides store (sideMirrored store n two one) e (λ p. passed-at k p .mirrored-back)
+      (λ t. at-passed k (record { labels = labels; there = there; back = back; mirrored-there = mirrored; mirrored-back = t }))
+
+  -- What the mirrors need of the sides.
+  pub there-good : r ≡ unless (sideGood store n m one) → r ≡ 0 → GoodSide store n one
+  there-good e z = good-side store n m one (forward-room k) (there-passes e z)
+
+  pub back-good : r ≡ unless (sideGood store n m two) → r ≡ 0 → GoodSide store n two
+  back-good e z = good-side store n m two (backward-room k) (back-passes e z)
