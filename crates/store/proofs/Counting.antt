@@ -12,7 +12,7 @@ use Rattle.graph.specs.Store.{usedWords}
 use Rattle.store.specs.Side.{verticesIn, edgesIn, sideIn}
 use Rattle.store.specs.Check.{unless, countsFit, Counted}
 use Rattle.store.proofs.Accepted.{side-ends}
-use Rattle.store.proofs.Loops.{refused}
+use Rattle.store.proofs.Loops.{refused, answer-passes}
 
 ruleset conj = (and-l, and-r)
 
@@ -41,6 +41,10 @@ fit-counts store k =
       lt-ltb (edgesIn store) 1048576 (k .few-edges),
       le-leb (usedWords (verticesIn store) (edgesIn store)) (length store) (k .room),
     )
+
+-- The answers of the test.
+pub counts-passed : (store : List ℕ) {r : ℕ} → r ≡ unless (countsFit store) → r ≡ 0 → Counts store
+counts-passed store e z = counts-fit store (answer-passes (countsFit store) e z)
 
 pub counts-refused : (store : List ℕ) → (Counts store → ⊥) → 19 ≡ unless (countsFit store)
 counts-refused store f = refused (fails (countsFit store) (λ t. f (counts-fit store t)))

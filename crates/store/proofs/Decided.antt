@@ -106,7 +106,7 @@ module _ {store : List ℕ} {n m one two : ℕ} (k : Counted store n m one two) 
   at-passed = counted-as k (λ (a b c d : ℕ). PassedAt store a b c d → Passed store) (all-passed (k .counts))
 
 -- An answer other than 0 to a test that every accepted store passes is the refusal.
-pub refuses : (store : List ℕ) (b : Bool) {r : ℕ} → r ≡ unless b → (r ≡ 0 → ⊥) → (Passed store → b ≡ true) → r ≡ storeFault store
+refuses : (store : List ℕ) (b : Bool) {r : ℕ} → r ≡ unless b → (r ≡ 0 → ⊥) → (Passed store → b ≡ true) → r ≡ storeFault store
 unfolding storeFault
 refuses store b e h f =
     answer-hands b (wellFormed (graphIn store) && same (take (storeSize (graphIn store)) store) (storeOf (graphIn store))) e h
@@ -116,6 +116,9 @@ refuses store b e h f =
 decides : (store : List ℕ) (b : Bool) {r : ℕ} → r ≡ unless b → (Passed store → b ≡ true) → (b ≡ true → Passed store) → r ≡ storeFault store
 decides store true e f g = e ∙ sym (passed-accepted store (g refl))
 decides store false {r} e f g = refuses store false e (λ z. omega arith) f
+
+pub counts-refuse : (store : List ℕ) {r : ℕ} → r ≡ unless (countsFit store) → (r ≡ 0 → ⊥) → r ≡ storeFault store
+counts-refuse store e h = refuses store (countsFit store) e h (λ p. p .counts)
 
 -- The answers in turn: where one is not 0 it is the refusal, and where it is 0 its test is passed.
 module _ {store : List ℕ} {n m one two : ℕ} (k : Counted store n m one two) {r : ℕ} where

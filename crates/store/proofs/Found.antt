@@ -12,7 +12,9 @@ use Rattle.lists.specs.Lists.{any, ascending}
 use Rattle.lists.proofs.Tests.{clash, fails, or-intro-l, or-intro-r, or-elim}
 use Rattle.search.specs.Search.{firstFrom}
 use Rattle.search.proofs.Laws.{below-first, above-first, first-above}
-use Rattle.store.specs.Check.{member}
+use Rattle.store.specs.Check.{unless, member}
+use Rattle.store.proofs.Between.{first-fits}
+use Rattle.store.proofs.Loops.{refused, passes}
 
 -- Some word passes exactly where the one at some index does.
 pub index-any : (p : ℕ → Bool) (s : List ℕ) (i : ℕ) → i < length s → p (getD s i 0) ≡ true → any p s ≡ true
@@ -36,18 +38,24 @@ module _ (s : List ℕ) (up : ascending s ≡ true) (x i : ℕ) (ends : i ≡ fi
       let e : getD s j 0 ≡ x = eqb-true (getD s j 0) x u in
       r j h e (omega (arith, above-first s up 0 x j zero-le h (omega arith))))
 
-  pub absent-end : i ≡ length s → member x s ≡ false
-  absent-end e = fails (member x s) (λ t. stands t (λ j h u l. omega arith))
+  -- Where it does not end at the end, it ends at a word.
+  pub found-inside : (i ≡ length s → ⊥) → i < length s
+  found-inside d = omega (arith, first-fits s x ends, d)
 
-  pub absent-other : i < length s → (getD s i 0 ≡ x → ⊥) → member x s ≡ false
-  absent-other h d =
-      fails (member x s)
+  pub absent-end : i ≡ length s → 19 ≡ unless (member x s)
+  absent-end e = refused (fails (member x s) (λ t. stands t (λ j h u l. omega arith)))
+
+  pub absent-other : (i ≡ length s → ⊥) → (getD s i 0 ≡ x → ⊥) → 19 ≡ unless (member x s)
+  absent-other n d =
+      refused
+      (fails (member x s)
       (λ t.
       stands t
       (λ j k u l.
+      let h : i < length s = found-inside n in
       let a : x ≤ getD s i 0 = first-above s up 0 x i (omega arith) h in
       let b : firstFrom s 0 (getD s i 0) ≤ i = above-first s up 0 (getD s i 0) i zero-le h (omega arith) in
-      omega (arith, d, below-first s up 0 (getD s i 0) j zero-le k (omega (arith, d)))))
+      omega (arith, d, below-first s up 0 (getD s i 0) j zero-le k (omega (arith, d))))))
 
-  pub present : i < length s → getD s i 0 ≡ x → member x s ≡ true
-  present h e = index-any (λ (k : ℕ). eqb k x) s i h (eq-eqb (getD s i 0) x e)
+  pub present : (i ≡ length s → ⊥) → getD s i 0 ≡ x → 0 ≡ unless (member x s)
+  present n e = passes (index-any (λ (k : ℕ). eqb k x) s i (found-inside n) (eq-eqb (getD s i 0) x e))

@@ -27,7 +27,9 @@ returns-4 c = counts-refused (now (c .before .before .before .before .before .be
 
 returns-5 : tie.Need-returns-5
 returns-5 c =
-    passes (fit-counts (now (c .before .before .before .before .before .before .before .before .before .args .store)) (record { named = omega arith; few-vertices = omega arith; few-edges = omega arith; room = omega arith }))
+    passes
+    (fit-counts (now (c .before .before .before .before .before .before .before .before .before .args .store))
+    (record { named = omega arith; few-vertices = omega arith; few-edges = omega arith; room = omega arith }))
 
 pub counts-fault-spec : {M : Type 1} → statement M
 counts-fault-spec =

@@ -1,11 +1,9 @@
 -- `store::check::lists_fault` meets its contract: the lists of the vertices below v fit. Assumes nothing.
-use mathlib.Core.Path.{_∙_, ap}
-use mathlib.Core.List.{List}
 use borrow.Author.Needs.{needs}
 use Prim.Native.Nat.{ℕ, _-_}
 use native.Mathlib.Omega.{arith}
 use Rattle.store.specs.Side.{listOn}
-use Rattle.store.specs.Check.{unless, listFits, sideFits}
+use Rattle.store.specs.Check.{listFits, sideFits}
 use Rattle.store.proofs.Loops.{AllBelow, below-start, below-next, below-stop, below-end}
 use Rattle.store.proofs.check.lists_fault.Statement.{statement}
 use Rattle.store.proofs.check.lists_fault.Tie as tie
@@ -27,9 +25,7 @@ list-fault-requires c κs = search needs
 
 returns : tie.Need-returns Inv-loop μ-loop
 unfolding sideFits
-returns c =
-    below-stop (c .before .before .before .before .loop .inv) (omega arith)
-    (c .before .list-fault .ensures ∙ ap (λ (l : List ℕ). unless (listFits (c .before .before .before .before .before .before .args .n) l)) (c .before .before .neighbours .ensures)) (c .if1 .taken)
+returns c = below-stop (c .before .before .before .before .loop .inv) (omega arith) (rw (c .before .before .neighbours .ensures) at (c .before .list-fault .ensures)) (c .if1 .taken)
 
 add-v : tie.Need-add-v Inv-loop μ-loop
 add-v c = omega arith
@@ -38,9 +34,7 @@ loop-less : tie.Need-loop-less Inv-loop μ-loop
 loop-less c = omega arith
 
 loop-again : tie.Need-loop-again Inv-loop μ-loop
-loop-again c =
-    below-next (c .before .before .before .before .loop .inv) (omega arith)
-    (c .before .list-fault .ensures ∙ ap (λ (l : List ℕ). unless (listFits (c .before .before .before .before .before .before .args .n) l)) (c .before .before .neighbours .ensures)) (c .if1 .left)
+loop-again c = below-next (c .before .before .before .before .loop .inv) (omega arith) (rw (c .before .before .neighbours .ensures) at (c .before .list-fault .ensures)) (c .if1 .left)
 
 returns-2 : tie.Need-returns-2 Inv-loop μ-loop
 unfolding sideFits

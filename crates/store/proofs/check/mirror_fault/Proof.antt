@@ -1,13 +1,9 @@
 -- `store::check::mirror_fault` meets its contract: the entries before i have their mirrors. Assumes nothing.
-use mathlib.Core.Path.{_∙_, ap}
-use mathlib.Core.List.{List}
 use Prim.Native.Nat.{ℕ, _-_, _%_}
 use native.Mathlib.Omega.{arith}
-use lib.ListN.{length, getD}
-use denote.Ref.{now}
-use Rattle.lists.specs.Lists.{ascending}
+use lib.ListN.{length}
 use Rattle.store.specs.Side.{listOn}
-use Rattle.store.specs.Check.{unless, member, mirror, listMirrored}
+use Rattle.store.specs.Check.{member, mirror, listMirrored}
 use Rattle.store.proofs.Loops.{AllFrom, all-start, all-goes, all-halts, all-end}
 use Rattle.store.proofs.Fits.{fit-entry, side-ascends}
 use Rattle.store.proofs.check.mirror_fault.Statement.{statement}
@@ -32,7 +28,9 @@ cast-neighbours : tie.Need-cast-neighbours Inv-loop μ-loop
 cast-neighbours c = omega arith
 
 neighbours-requires : tie.Need-neighbours-requires Inv-loop μ-loop
-neighbours-requires c κs = c .before .before .before .before .before .pre .0 .within ((getD (now (c .before .before .before .before .before .args .list)) (c .before .before .loop .i) 0) % 65536) (fit-entry (c .before .before .before .before .before .args .n) (now (c .before .before .before .before .before .args .list)) (c .before .before .loop .i) (c .before .before .before .before .before .pre .1 .0) (omega arith) .inside)
+neighbours-requires c κs =
+    let a = c .before .before .before .before .before in
+    a .pre .0 .within _ (fit-entry _ _ (c .before .before .loop .i) (a .pre .1 .0) (omega arith) .inside)
 
 sub-absent-fault : tie.Need-sub-absent-fault Inv-loop μ-loop
 sub-absent-fault c = omega arith
@@ -41,17 +39,17 @@ cast-absent-fault : tie.Need-cast-absent-fault Inv-loop μ-loop
 cast-absent-fault c = omega arith
 
 add-absent-fault : tie.Need-add-absent-fault Inv-loop μ-loop
-add-absent-fault c = omega (arith, fit-entry (c .before .before .before .before .before .before .args .n) (now (c .before .before .before .before .before .before .args .list)) (c .before .before .before .loop .i) (c .before .before .before .before .before .before .pre .1 .0) (omega arith))
+add-absent-fault c = omega (arith, fit-entry _ _ (c .before .before .before .loop .i) (c .before .before .before .before .before .before .pre .1 .0) (omega arith))
 
 absent-fault-requires : tie.Need-absent-fault-requires Inv-loop μ-loop
 absent-fault-requires c κs =
-    ap ascending (c .neighbours .ensures) ∙ side-ascends (c .before .before .before .before .before .before .pre .0) ((getD (now (c .before .before .before .before .before .before .args .list)) (c .before .before .before .loop .i) 0) % 65536) (fit-entry (c .before .before .before .before .before .before .args .n) (now (c .before .before .before .before .before .before .args .list)) (c .before .before .before .loop .i) (c .before .before .before .before .before .before .pre .1 .0) (omega arith) .inside)
+    let a = c .before .before .before .before .before .before in
+    rw (c .neighbours .ensures)
+    (side-ascends (a .pre .0) _ (fit-entry _ _ (c .before .before .before .loop .i) (a .pre .1 .0) (omega arith) .inside))
 
 returns : tie.Need-returns Inv-loop μ-loop
 unfolding listMirrored
-returns c =
-    all-halts (c .before .before .before .before .before .loop .inv) (omega arith)
-    (c .before .absent-fault .ensures ∙ ap (λ (l : List ℕ). unless (member (mirror (c .before .before .before .before .before .before .before .before .args .v) (getD (now (c .before .before .before .before .before .before .before .before .args .list)) (c .before .before .before .before .before .loop .i) 0)) l)) (c .before .before .neighbours .ensures)) (c .if1 .taken)
+returns c = all-halts (c .before .before .before .before .before .loop .inv) (omega arith) (rw (c .before .before .neighbours .ensures) at (c .before .absent-fault .ensures)) (c .if1 .taken)
 
 add-i : tie.Need-add-i Inv-loop μ-loop
 add-i c = omega arith
@@ -60,9 +58,7 @@ loop-less : tie.Need-loop-less Inv-loop μ-loop
 loop-less c = omega arith
 
 loop-again : tie.Need-loop-again Inv-loop μ-loop
-loop-again c =
-    all-goes (c .before .before .before .before .before .loop .inv) (omega arith)
-    (c .before .absent-fault .ensures ∙ ap (λ (l : List ℕ). unless (member (mirror (c .before .before .before .before .before .before .before .before .args .v) (getD (now (c .before .before .before .before .before .before .before .before .args .list)) (c .before .before .before .before .before .loop .i) 0)) l)) (c .before .before .neighbours .ensures)) (c .if1 .left)
+loop-again c = all-goes (c .before .before .before .before .before .loop .inv) (omega arith) (rw (c .before .before .neighbours .ensures) at (c .before .absent-fault .ensures)) (c .if1 .left)
 
 returns-2 : tie.Need-returns-2 Inv-loop μ-loop
 unfolding listMirrored

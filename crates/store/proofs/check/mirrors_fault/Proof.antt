@@ -1,11 +1,8 @@
 -- `store::check::mirrors_fault` meets its contract: the entries of the vertices below v have their mirrors. Assumes nothing.
-use mathlib.Core.Path.{_∙_, ap}
-use mathlib.Core.List.{List}
 use Prim.Native.Nat.{ℕ, _-_}
 use native.Mathlib.Omega.{arith}
-use denote.Ref.{now}
 use Rattle.store.specs.Side.{listOn}
-use Rattle.store.specs.Check.{unless, listFits, listMirrored, sideMirrored}
+use Rattle.store.specs.Check.{listMirrored, sideMirrored}
 use Rattle.store.proofs.Loops.{AllBelow, below-start, below-next, below-stop, below-end}
 use Rattle.store.proofs.Fits.{side-list}
 use Rattle.store.proofs.check.mirrors_fault.Statement.{statement}
@@ -26,13 +23,11 @@ neighbours-requires c κs = c .before .before .before .pre .0 .within (c .before
 mirror-fault-requires : tie.Need-mirror-fault-requires Inv-loop μ-loop
 mirror-fault-requires c κs =
     let a = c .before .before .before .before in
-    (a .pre .1 .0, (ap (listFits (a .args .n)) (c .neighbours .ensures) ∙ side-list (a .pre .0) (c .before .before .loop .v) (omega arith), (omega arith, a .pre .1 .1)))
+    (a .pre .1 .0, (rw (c .neighbours .ensures) (side-list (a .pre .0) (c .before .before .loop .v) (omega arith)), (omega arith, a .pre .1 .1)))
 
 returns : tie.Need-returns Inv-loop μ-loop
 unfolding sideMirrored
-returns c =
-    below-stop (c .before .before .before .before .loop .inv) (omega arith)
-    (c .before .mirror-fault .ensures ∙ ap (λ (l : List ℕ). unless (listMirrored (now (c .before .before .before .before .before .before .args .store)) (c .before .before .before .before .before .before .args .n) (c .before .before .before .before .before .before .args .other) (c .before .before .before .before .loop .v) l)) (c .before .before .neighbours .ensures)) (c .if1 .taken)
+returns c = below-stop (c .before .before .before .before .loop .inv) (omega arith) (rw (c .before .before .neighbours .ensures) at (c .before .mirror-fault .ensures)) (c .if1 .taken)
 
 add-v : tie.Need-add-v Inv-loop μ-loop
 add-v c = omega arith
@@ -41,9 +36,7 @@ loop-less : tie.Need-loop-less Inv-loop μ-loop
 loop-less c = omega arith
 
 loop-again : tie.Need-loop-again Inv-loop μ-loop
-loop-again c =
-    below-next (c .before .before .before .before .loop .inv) (omega arith)
-    (c .before .mirror-fault .ensures ∙ ap (λ (l : List ℕ). unless (listMirrored (now (c .before .before .before .before .before .before .args .store)) (c .before .before .before .before .before .before .args .n) (c .before .before .before .before .before .before .args .other) (c .before .before .before .before .loop .v) l)) (c .before .before .neighbours .ensures)) (c .if1 .left)
+loop-again c = below-next (c .before .before .before .before .loop .inv) (omega arith) (rw (c .before .before .neighbours .ensures) at (c .before .mirror-fault .ensures)) (c .if1 .left)
 
 returns-2 : tie.Need-returns-2 Inv-loop μ-loop
 unfolding sideMirrored

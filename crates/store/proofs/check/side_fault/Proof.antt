@@ -29,7 +29,9 @@ offsets-fault-requires : tie.Need-offsets-fault-requires
 offsets-fault-requires c κs = search needs
 
 returns : tie.Need-returns
-returns c = offsets-refused (now (c .before .before .before .before .args .store)) (c .before .before .before .before .args .n) (c .before .before .before .before .args .m) (c .before .before .before .before .args .side) (c .before .offsets-fault .ensures) (c .if1 .taken)
+returns c =
+    let a = c .before .before .before .before in
+    offsets-refused (now (a .args .store)) (a .args .n) (a .args .m) (a .args .side) (c .before .offsets-fault .ensures) (c .if1 .taken)
 
 lists-fault-requires : tie.Need-lists-fault-requires
 lists-fault-requires c κs =

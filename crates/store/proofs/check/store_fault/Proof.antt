@@ -1,10 +1,8 @@
 -- `store::check::store_fault` meets its contract: the counts, and then the rest. Assumes nothing.
 use native.Mathlib.Omega.{arith}
 use denote.Ref.{now}
-use Rattle.store.specs.Check.{countsFit}
-use Rattle.store.proofs.Loops.{answer-passes}
-use Rattle.store.proofs.Counting.{counts-fit}
-use Rattle.store.proofs.Decided.{refuses}
+use Rattle.store.proofs.Counting.{counts-passed, fit-counts}
+use Rattle.store.proofs.Decided.{counts-refuse}
 use borrow.Author.Needs.{needs}
 use Rattle.store.proofs.check.store_fault.Statement.{statement}
 use Rattle.store.proofs.check.store_fault.Tie as tie
@@ -13,24 +11,24 @@ counts-fault-requires : tie.Need-counts-fault-requires
 counts-fault-requires c κs = search needs
 
 returns : tie.Need-returns
-returns c = refuses (now (c .before .before .before .args .store)) (countsFit (now (c .before .before .before .args .store))) (c .before .counts-fault .ensures) (c .if1 .taken) (λ p. p .counts)
+returns c = counts-refuse (now (c .before .before .before .args .store)) (c .before .counts-fault .ensures) (c .if1 .taken)
 
 of-store-requires : tie.Need-of-store-requires
-of-store-requires c κs = counts-fit (now (c .before .before .before .args .store)) (answer-passes (countsFit (now (c .before .before .before .args .store))) (c .before .counts-fault .ensures) (c .if1 .left)) .named
+of-store-requires c κs = counts-passed (now (c .before .before .before .args .store)) (c .before .counts-fault .ensures) (c .if1 .left) .named
 
 cast-sides-fault : tie.Need-cast-sides-fault
-cast-sides-fault c = omega (arith, counts-fit (now (c .before .before .before .before .before .args .store)) (answer-passes (countsFit (now (c .before .before .before .before .before .args .store))) (c .before .before .before .counts-fault .ensures) (c .before .before .if1 .left)))
+cast-sides-fault c = omega (arith, counts-passed (now (c .before .before .before .before .before .args .store)) (c .before .before .before .counts-fault .ensures) (c .before .before .if1 .left))
 
 forward-requires : tie.Need-forward-requires
-forward-requires c κs = omega (arith, counts-fit (now (c .before .before .before .before .before .args .store)) (answer-passes (countsFit (now (c .before .before .before .before .before .args .store))) (c .before .before .before .counts-fault .ensures) (c .before .before .if1 .left)))
+forward-requires c κs = omega (arith, counts-passed (now (c .before .before .before .before .before .args .store)) (c .before .before .before .counts-fault .ensures) (c .before .before .if1 .left))
 
 backward-requires : tie.Need-backward-requires
-backward-requires c κs = omega (arith, counts-fit (now (c .before .before .before .before .before .before .args .store)) (answer-passes (countsFit (now (c .before .before .before .before .before .before .args .store))) (c .before .before .before .before .counts-fault .ensures) (c .before .before .before .if1 .left)))
+backward-requires c κs = omega (arith, counts-passed (now (c .before .before .before .before .before .before .args .store)) (c .before .before .before .before .counts-fault .ensures) (c .before .before .before .if1 .left))
 
 sides-fault-requires : tie.Need-sides-fault-requires
 sides-fault-requires c κs =
     record {
-      counts = answer-passes (countsFit (now (c .before .before .before .before .before .before .before .args .store))) (c .before .before .before .before .before .counts-fault .ensures) (c .before .before .before .before .if1 .left);
+      counts = fit-counts _ (counts-passed (now (c .before .before .before .before .before .before .before .args .store)) (c .before .before .before .before .before .counts-fault .ensures) (c .before .before .before .before .if1 .left));
       vertices = omega arith;
       edges = omega arith;
       forward-at = omega arith;
