@@ -2,19 +2,19 @@
 use mathlib.Core.Path.{_≡_, refl, sym, _∙_, ap}
 use mathlib.Core.Bool.{Bool, true, false, _&&_}
 use mathlib.Core.List.{List}
-use Prim.Native.Nat.{ℕ, suc, _+_, _-_, _≤_}
+use Prim.Native.Nat.{ℕ, suc, _+_, _-_}
 use native.Mathlib.Omega.{arith}
 use lib.Dec.{ltb}
-use lib.ListN.{length, take, drop}
+use lib.ListN.{take, drop}
 use Rattle.lists.specs.Lists.{all, same}
-use Rattle.lists.proofs.Tests.{and-l, and-r, and-both}
+use Rattle.lists.proofs.Tests.{and-l}
 use Rattle.graph.specs.Graph.{Direction, forward, backward}
 use Rattle.graph.specs.Store.{graphIn, storeOf, storeSize, wellFormed, storeFault}
 use Rattle.store.specs.Side.{verticesIn, edgesIn, sideIn}
 use Rattle.store.specs.Check.{unless, countsFit, labelsFit, offsetsFit, offsetsOn, sideFits, sideGood, GoodSide, sideMirrored, turned, Counted}
 use Rattle.store.proofs.Counting.{counted-as, forward-room, backward-room}
-use Rattle.store.proofs.Offsets.{offsets-rising, offsets-within}
 use Rattle.store.proofs.Loops.{answer-hands, answer-passes}
+use Rattle.store.proofs.Fits.{good-side}
 use Rattle.store.proofs.Spelt.{Passed, passed-accepted}
 use Rattle.store.proofs.Tested.{accepted-passed}
 
@@ -36,15 +36,6 @@ module _ (store : List ℕ) (n m side : ℕ) {r : ℕ} (e : r ≡ unless (offset
   -- Then the lists decide.
   pub offsets-then : r ≡ 0 → unless (sideFits store n side) ≡ unless (sideGood store n m side)
   offsets-then z = ap (λ (b : Bool). unless (b && sideFits store n side)) (sym (offsets-pass z))
-
-good-side : (store : List ℕ) (n m side : ℕ) → side + n + 1 + m ≤ length store → sideGood store n m side ≡ true → GoodSide store n side
-good-side store n m side room t =
-    record {
-      within =
-          offsets-within store n m side room
-          (offsets-rising store n m side room (and-l (offsetsFit m (offsetsOn store n side)) (sideFits store n side) t));
-      fits = and-r (offsetsFit m (offsetsOn store n side)) (sideFits store n side) t;
-    }
 
 -- ---- the whole
 
@@ -80,8 +71,7 @@ module _ {store : List ℕ} (k : countsFit store ≡ true) (p : PassedAt store (
       record {
         counts = k;
         labels = labels-part store ∙ p .labels;
-        offsets = λ d. and-l (offsetsFit (edgesIn store) (offsetsOn store (verticesIn store) (sideIn d store))) (sideFits store (verticesIn store) (sideIn d store)) (sides d);
-        lists = λ d. and-r (offsetsFit (edgesIn store) (offsetsOn store (verticesIn store) (sideIn d store))) (sideFits store (verticesIn store) (sideIn d store)) (sides d);
+        sides = sides;
         mirrors = mirrored;
       }
 
@@ -91,16 +81,11 @@ module _ {store : List ℕ} {n m one two : ℕ} (k : Counted store n m one two) 
       counted-as k (PassedAt store)
       (record {
         labels = sym (labels-part store) ∙ p .labels;
-        there = side forward;
-        back = side backward;
+        there = p .sides forward;
+        back = p .sides backward;
         mirrored-there = p .mirrors forward;
         mirrored-back = p .mirrors backward;
       })
-    where
-      side : (d : Direction) → sideGood store (verticesIn store) (edgesIn store) (sideIn d store) ≡ true
-      side d =
-          and-both (offsetsFit (edgesIn store) (offsetsOn store (verticesIn store) (sideIn d store))) (sideFits store (verticesIn store) (sideIn d store))
-          (p .offsets d) (p .lists d)
 
   at-passed : PassedAt store n m one two → Passed store
   at-passed = counted-as k (λ (a b c d : ℕ). PassedAt store a b c d → Passed store) (all-passed (k .counts))

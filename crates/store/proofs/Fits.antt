@@ -2,16 +2,17 @@
 use mathlib.Core.Path.{_≡_, _∙_}
 use mathlib.Core.Bool.{Bool, true, _&&_}
 use mathlib.Core.List.{List}
-use Prim.Native.Nat.{ℕ, _%_, _<_}
+use Prim.Native.Nat.{ℕ, _+_, _%_, _≤_, _<_}
 use lib.Dec.{ltb}
+use lib.ListN.{length, getD}
 use borrow.Author.Tests.{ltb-true}
 use Rattle.lists.specs.Lists.{all, ascendsFrom, ascending}
 use Rattle.lists.proofs.Tests.{and-l, and-r, and-both}
 use Rattle.lists.proofs.All.{all-at, all-and, all-getD}
 use Rattle.lists.proofs.Sort.{ascends-tail, ascends-above}
-use lib.ListN.{length, getD}
 use Rattle.store.specs.Side.{listOn}
-use Rattle.store.specs.Check.{listFits, sideFits, GoodSide}
+use Rattle.store.specs.Check.{listFits, offsetsFit, offsetsOn, sideFits, sideGood, GoodSide}
+use Rattle.store.proofs.Offsets.{offsets-rising, offsets-within}
 
 ruleset conj = (and-l, and-r)
 
@@ -48,7 +49,17 @@ good-entry n k t =
 pub fit-entry : (n : ℕ) (s : List ℕ) (i : ℕ) → listFits n s ≡ true → i < length s → Entry n (getD s i 0)
 fit-entry n s i e h = good-entry n (getD s i 0) (all-getD (goodEntry n) s i 0 h (fit-entries n s e))
 
--- The lists of a side that fits.
+-- A side that passes its tests, in a store that has its words.
+pub good-side : (store : List ℕ) (n m side : ℕ) → side + n + 1 + m ≤ length store → sideGood store n m side ≡ true → GoodSide store n side
+good-side store n m side room t =
+    record {
+      within =
+          offsets-within store n m side room
+          (offsets-rising store n m side room (and-l (offsetsFit m (offsetsOn store n side)) (sideFits store n side) t));
+      fits = and-r (offsetsFit m (offsetsOn store n side)) (sideFits store n side) t;
+    }
+
+-- Its lists.
 module _ {store : List ℕ} {n side : ℕ} (good : GoodSide store n side) where
   pub side-list : (v : ℕ) → v < n → listFits n (listOn store n side v) ≡ true
   unfolding sideFits

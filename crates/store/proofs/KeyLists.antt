@@ -10,12 +10,12 @@ use lib.Dec.{eqb, ltb}
 use lib.ListN.{length, length-map}
 use borrow.Author.Tests.{eqb-true, eq-eqb, ltb-true, ltb-false, lt-ltb, le-ltb}
 use Rattle.lists.specs.Lists.{range, all, count, ascending}
-use Rattle.store.specs.Check.{member}
 use Rattle.lists.proofs.Tests.{and-l, and-r, and-both, not-true}
 use Rattle.lists.proofs.All.{all-append, all-follows}
 use Rattle.lists.proofs.Count.{all-map, count-append, count-map, count-none, count-all}
 use Rattle.lists.proofs.Sort.{ascends-from, ascends-tail, ascends-above}
 use Rattle.graph.proofs.Maps.{map-under, flatMap-suc}
+use Rattle.store.specs.Check.{member}
 use Rattle.store.proofs.Members.{all-true, any-map, any-flatMap, any-some, any-at, any-below, any-follows}
 use Rattle.store.proofs.Ascending.{ascending-map}
 

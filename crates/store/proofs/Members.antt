@@ -9,11 +9,11 @@ use native.Mathlib.Omega.{arith}
 use lib.Dec.{eqb, ltb}
 use borrow.Author.Tests.{ltb-true, lt-ltb}
 use Rattle.lists.specs.Lists.{_⇒_, bit, range, all, any, keep, count, sort}
-use Rattle.store.specs.Check.{member}
 use Rattle.lists.proofs.Tests.{clash, and-l, and-r, imp-intro, or-intro-l, or-intro-r, or-elim}
 use Rattle.lists.proofs.All.{all-mem, all-keep, all-follows, all-range}
 use Rattle.lists.proofs.Count.{count-map, count-keep, count-under, count-range-one}
 use Rattle.lists.proofs.Sort.{count-sort}
+use Rattle.store.specs.Check.{member}
 
 -- Some element passes where at least one does.
 pub any-count : {A : Type 0} (p : A → Bool) (xs : List A) → any p xs ≡ ltb 0 (count p xs)

@@ -22,21 +22,20 @@ use Rattle.graph.proofs.Keys.{keys-ascend, keys-below}
 use Rattle.graph.proofs.Parts.{offset, side, store-shape}
 use Rattle.graph.proofs.StoreGraph.{store-accepted}
 use Rattle.store.specs.Side.{listOn, verticesIn, edgesIn, sideIn}
-use Rattle.store.specs.Check.{countsFit, labelsFit, offsetsFit, offsetsOn, listFits, sideFits, member, mirror, listMirrored, sideMirrored, turned}
+use Rattle.store.specs.Check.{countsFit, labelsFit, offsetsFit, offsetsOn, sideFits, sideGood, GoodSide, member, mirror, listMirrored, sideMirrored, turned}
+use Rattle.store.proofs.Counting.{Counts, counts-fit}
 use Rattle.store.proofs.Members.{member-sort}
 use Rattle.store.proofs.Ascending.{ascending-members}
 use Rattle.store.proofs.Accepted.{side-ends}
-use Rattle.store.proofs.Counting.{Counts, counts-fit}
-use Rattle.store.proofs.Fits.{goodEntry, Entry, good-entry, fit-entries, fit-ascending}
-use Rattle.store.proofs.Offsets.{Rising, offsets-rising, offsets-lists, offsets-length}
 use Rattle.store.proofs.KeyLists.{map-flatMap, keyAt, keysOf, Fit, keys-entries, keys-ascending, keys-before, pair-some, some-pair}
+use Rattle.store.proofs.Offsets.{Rising, offsets-rising, offsets-lists, offsets-length}
+use Rattle.store.proofs.Fits.{goodEntry, Entry, good-entry, fit-entries, good-side, side-list, side-ascends}
 
 -- The tests, all passed.
 pub record Passed (store : List ℕ) : Type 0 where
   pub counts : countsFit store ≡ true
   pub labels : labelsFit store ≡ true
-  pub offsets : (d : Direction) → offsetsFit (edgesIn store) (offsetsOn store (verticesIn store) (sideIn d store)) ≡ true
-  pub lists : (d : Direction) → sideFits store (verticesIn store) (sideIn d store) ≡ true
+  pub sides : (d : Direction) → sideGood store (verticesIn store) (edgesIn store) (sideIn d store) ≡ true
   pub mirrors : (d : Direction) → sideMirrored store (verticesIn store) (sideIn d store) (sideIn (turned d) store) ≡ true
 
 -- The list of v on the side of a direction.
@@ -87,15 +86,15 @@ module _ (store : List ℕ) (passed : Passed store) where
   side-room d = omega (arith, side-ends d n m, counted .room)
 
   rising : (d : Direction) → Rising m n (λ (v : ℕ). getD store (sideIn d store + v) 0)
-  rising d = offsets-rising store n m (sideIn d store) (side-room d) (passed .offsets d)
+  rising d =
+      offsets-rising store n m (sideIn d store) (side-room d)
+      (and-l (offsetsFit m (offsetsOn store n (sideIn d store))) (sideFits store n (sideIn d store)) (passed .sides d))
+
+  good : (d : Direction) → GoodSide store n (sideIn d store)
+  good d = good-side store n m (sideIn d store) (side-room d) (passed .sides d)
 
   list-good : (d : Direction) (v : ℕ) → v < n → all (goodEntry n) (listTo store d v) ≡ true
-  unfolding sideFits
-  list-good d v h = fit-entries n (listTo store d v) (all-at (λ (v : ℕ). listFits n (listTo store d v)) n (passed .lists d) v h)
-
-  list-up : (d : Direction) (v : ℕ) → v < n → ascending (listTo store d v) ≡ true
-  unfolding sideFits
-  list-up d v h = fit-ascending n (listTo store d v) (all-at (λ (v : ℕ). listFits n (listTo store d v)) n (passed .lists d) v h)
+  list-good d v h = fit-entries n (listTo store d v) (side-list (good d) v h)
 
   list-fit : (d : Direction) → Fit (listTo store d) n
   list-fit d v h =
@@ -130,7 +129,7 @@ module _ (store : List ℕ) (passed : Passed store) where
         labelled = length-take-le n (drop 2 store) (rw length-drop (let r : usedWords n m ≤ length store = counted .room in omega arith));
         labels-fit = passed .labels;
         edges-fit = edges-fit;
-        edges-ascend = ap ascending (forward-keys store) ∙ keys-ascending (listTo store forward) n (list-fit forward) (list-up forward);
+        edges-ascend = ap ascending (forward-keys store) ∙ keys-ascending (listTo store forward) n (list-fit forward) (side-ascends (good forward));
       }
 
   -- Each entry has its mirror on the other side.
@@ -179,7 +178,7 @@ module _ (store : List ℕ) (passed : Passed store) where
   sorted : (d : Direction) → sort (map (key d) (g .edges)) ≡ keysOf (listTo store d) n
   sorted forward = sort-ascending (map (key forward) (g .edges)) (well .edges-ascend) ∙ forward-keys store
   sorted backward =
-      ascending-members _ _ (keys-ascend g well backward) (keys-ascending (listTo store backward) n (list-fit backward) (list-up backward))
+      ascending-members _ _ (keys-ascend g well backward) (keys-ascending (listTo store backward) n (list-fit backward) (side-ascends (good backward)))
       (λ k. member-sort k (map (key backward) (g .edges)) ∙ backward-keys k)
 
   -- Its offsets and entries are those of the graph.

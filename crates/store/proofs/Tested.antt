@@ -17,11 +17,11 @@ use Rattle.graph.specs.Store.{usedWords, graphIn, storeFault}
 use Rattle.graph.proofs.WellFormed.{WellFormed, Fitting, fitting, fitting-edge}
 use Rattle.graph.proofs.Keys.{near-in, far-in}
 use Rattle.store.specs.Side.{verticesIn, edgesIn, sideIn}
-use Rattle.store.specs.Check.{countsFit, labelsFit, listFits, sideFits, member, mirror, listMirrored, sideMirrored, turned}
+use Rattle.store.specs.Check.{countsFit, labelsFit, offsetsFit, offsetsOn, listFits, sideFits, member, mirror, listMirrored, sideMirrored, turned}
 use Rattle.store.specs.Portion.{listOf}
+use Rattle.store.proofs.Counting.{fit-counts}
 use Rattle.store.proofs.Listed.{list-all, list-any, list-ascends, entries-given, entries-fit, entries-in}
 use Rattle.store.proofs.Accepted.{side-ends, graph-formed, store-length, store-edges, offset-in, list-within, list-on}
-use Rattle.store.proofs.Counting.{fit-counts}
 use Rattle.store.proofs.Offsets.{Rising, rising-offsets}
 use Rattle.store.proofs.Spelt.{Passed, listTo}
 
@@ -105,14 +105,13 @@ module _ (store : List ℕ) (accepted : storeFault store ≡ 0) where
       record {
         counts = counts-pass;
         labels = formed .labels-fit;
-        offsets =
+        sides =
             λ d.
-            rising-offsets store (verticesIn store) (edgesIn store) (sideIn d store)
-            (omega (arith, used, side-ends d (verticesIn store) (edgesIn store))) (offsets-rise d);
-        lists =
-            λ d.
-            all-range (λ (v : ℕ). listFits (verticesIn store) (listTo store d v)) (verticesIn store)
-            (λ v h. ap (listFits (verticesIn store)) (list-on store accepted d v h) ∙ list-fits g formed d v);
+            and-both (offsetsFit (edgesIn store) (offsetsOn store (verticesIn store) (sideIn d store))) (sideFits store (verticesIn store) (sideIn d store))
+            (rising-offsets store (verticesIn store) (edgesIn store) (sideIn d store)
+            (omega (arith, used, side-ends d (verticesIn store) (edgesIn store))) (offsets-rise d))
+            (all-range (λ (v : ℕ). listFits (verticesIn store) (listTo store d v)) (verticesIn store)
+            (λ v h. ap (listFits (verticesIn store)) (list-on store accepted d v h) ∙ list-fits g formed d v));
         mirrors =
             λ d.
             all-range (λ (v : ℕ). listMirrored store (verticesIn store) (sideIn (turned d) store) v (listTo store d v)) (verticesIn store)

@@ -1,9 +1,9 @@
 -- `store::check::absent_fault` meets its contract: the word stands where the search ends, or nowhere. Assumes nothing.
-use Rattle.store.proofs.Between.{first-fits}
 use native.Mathlib.Omega.{arith}
-use denote.Ref.{now}
-use Rattle.store.proofs.Found.{found-inside, absent-end, absent-other, present}
 use borrow.Author.Needs.{needs}
+use denote.Ref.{now}
+use Rattle.store.proofs.Between.{first-fits}
+use Rattle.store.proofs.Found.{found-inside, absent-end, absent-other, present}
 use Rattle.store.proofs.check.absent_fault.Statement.{statement}
 use Rattle.store.proofs.check.absent_fault.Tie as tie
 

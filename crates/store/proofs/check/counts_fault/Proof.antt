@@ -1,9 +1,9 @@
 -- `store::check::counts_fault` meets its contract: each test is one of `Counts`. Assumes nothing.
 use native.Mathlib.Omega.{arith}
-use denote.Ref.{now}
-use Rattle.store.proofs.Loops.{passes}
-use Rattle.store.proofs.Counting.{counts-refused, fit-counts}
 use borrow.Author.Needs.{needs}
+use denote.Ref.{now}
+use Rattle.store.proofs.Counting.{counts-refused, fit-counts}
+use Rattle.store.proofs.Loops.{passes}
 use Rattle.store.proofs.check.counts_fault.Statement.{statement}
 use Rattle.store.proofs.check.counts_fault.Tie as tie
 

@@ -1,7 +1,7 @@
 -- `store::check::lists_fault` meets its contract: the lists of the vertices below v fit. Assumes nothing.
-use borrow.Author.Needs.{needs}
 use Prim.Native.Nat.{ℕ, _-_}
 use native.Mathlib.Omega.{arith}
+use borrow.Author.Needs.{needs}
 use Rattle.store.specs.Side.{listOn}
 use Rattle.store.specs.Check.{listFits, sideFits}
 use Rattle.store.proofs.Loops.{AllBelow, below-start, below-next, below-stop, below-end}

@@ -1,9 +1,9 @@
 -- `store::check::side_fault` meets its contract: where the offsets fit, the lists lie in the store and decide. Assumes nothing.
 use mathlib.Core.Path.{_∙_}
+use borrow.Author.Needs.{needs}
 use denote.Ref.{now}
 use Rattle.store.proofs.Offsets.{offsets-rising, offsets-within}
 use Rattle.store.proofs.Decided.{offsets-refused, offsets-pass, offsets-then}
-use borrow.Author.Needs.{needs}
 use Rattle.store.proofs.check.side_fault.Statement.{statement}
 use Rattle.store.proofs.check.side_fault.Tie as tie
 

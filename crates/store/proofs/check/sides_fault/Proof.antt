@@ -1,10 +1,10 @@
 -- `store::check::sides_fault` meets its contract: a failed test refuses the store, and the last one decides. Assumes nothing.
 use Prim.Native.Nat.{_<_}
 use native.Mathlib.Omega.{arith}
+use borrow.Author.Needs.{needs}
 use Rattle.store.specs.Check.{GoodSide}
 use Rattle.store.proofs.Counting.{counted-few, forward-room, backward-room}
 use Rattle.store.proofs.Decided.{labels-refuse, there-refuses, back-refuses, mirrors-refuse, labels-pass, there-passes, back-passes, mirrors-pass, there-good, back-good, last-decides}
-use borrow.Author.Needs.{needs}
 use Rattle.store.proofs.check.sides_fault.Statement.{statement}
 use Rattle.store.proofs.check.sides_fault.Tie as tie
 

@@ -1,9 +1,9 @@
 -- `store::check::store_fault` meets its contract: the counts, and then the rest. Assumes nothing.
 use native.Mathlib.Omega.{arith}
+use borrow.Author.Needs.{needs}
 use denote.Ref.{now}
 use Rattle.store.proofs.Counting.{counts-passed, fit-counts}
 use Rattle.store.proofs.Decided.{counts-refuse}
-use borrow.Author.Needs.{needs}
 use Rattle.store.proofs.check.store_fault.Statement.{statement}
 use Rattle.store.proofs.check.store_fault.Tie as tie
 
