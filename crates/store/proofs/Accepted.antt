@@ -15,12 +15,12 @@ use Rattle.graph.proofs.WellFormed.{WellFormed, fitting, well-formed}
 use Rattle.graph.proofs.Keys.{count-mono}
 use Rattle.graph.proofs.Parts.{offset, sideStart, length-store, store-offset}
 use Rattle.graph.proofs.Loads.{store-formed}
-use Rattle.store.specs.Side.{listOn, Within, sideIn, Lookup}
+use Rattle.store.specs.Side.{listOn, Within, verticesIn, edgesIn, sideIn, Lookup}
 use Rattle.store.specs.Portion.{listOf}
 use Rattle.store.proofs.Listed.{store-list, list-ascends}
 
 -- A side of a store ends within its words.
-side-ends : (d : Direction) (n m : ℕ) → sideAt d n m + n + 1 + m ≤ usedWords n m
+pub side-ends : (d : Direction) (n m : ℕ) → sideAt d n m + n + 1 + m ≤ usedWords n m
 side-ends forward n m = omega arith
 side-ends backward n m = omega arith
 
@@ -39,11 +39,11 @@ module _ (store : List ℕ) (accepted : storeFault store ≡ 0) where
       omega (arith, length-store (graphIn store) (graph-formed .labelled), simp length-append at (ap length store-whole))
 
   -- Its first two words are its counts.
-  pub store-vertices : getD store 0 0 ≡ graphIn store .vertices
+  pub store-vertices : verticesIn store ≡ graphIn store .vertices
   unfolding graphIn
   store-vertices = refl
 
-  pub store-edges : getD store 1 0 ≡ length (graphIn store .edges)
+  pub store-edges : edgesIn store ≡ length (graphIn store .edges)
   unfolding storeOf
   store-edges = ap (λ (l : List ℕ). getD l 1 0) store-whole
 

@@ -10,7 +10,8 @@ use Rattle.lists.specs.Lists.{bit, range, all, keep, count, ascendsFrom, ascend
 use Rattle.lists.proofs.Tests.{and-l, and-r, and-both}
 use Rattle.lists.proofs.Sort.{ascends-down, ascends-tail, ascending-once, ascending-same}
 use Rattle.graph.proofs.Maps.{ascending-image}
-use Rattle.store.proofs.Members.{any-count, member}
+use Rattle.store.specs.Check.{member}
+use Rattle.store.proofs.Members.{any-count}
 
 -- What is kept of an ascending list ascends.
 ascends-keep : (p : ℕ → Bool) (a : ℕ) (xs : List ℕ) → ascendsFrom a xs ≡ true → ascendsFrom a (keep p xs) ≡ true

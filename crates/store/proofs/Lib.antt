@@ -5,3 +5,12 @@ pub mod Listed
 pub mod Portions
 pub mod Accepted
 pub mod Between
+pub mod KeyLists
+pub mod Offsets
+pub mod Loops
+pub mod Counting
+pub mod Found
+pub mod Fits
+pub mod Spelt
+pub mod Tested
+pub mod Decided

@@ -1,25 +1,24 @@
 -- A vertex's list: what stands in it, that it ascends, and that it is the words between two offsets of the store.
 -- Assumes nothing.
-use mathlib.Core.Path.{_≡_, sym, _∙_, ap, ap₂}
-use mathlib.Core.Bool.{Bool, true, not, _&&_}
+use mathlib.Core.Path.{_≡_, sym, _∙_, ap}
+use mathlib.Core.Bool.{Bool, true, _&&_}
 use mathlib.Core.List.{List, [], _++_, map}
 use Prim.Native.Nat.{ℕ, suc, _+_, _*_, _%_, _≤_, _<_}
 use native.Mathlib.Omega.{arith}
-use lib.Dec.{eqb, leb, ltb}
-use borrow.Author.Tests.{eqb-true, eq-eqb, ltb-true, ltb-false, lt-ltb, le-ltb, le-leb}
-use Rattle.lists.specs.Lists.{_⇒_, all, keep, count, ascending, sort}
-use Rattle.lists.proofs.Tests.{iff, and-l, and-r, and-both, imp-intro, not-true}
+use lib.Dec.{eqb, ltb}
+use borrow.Author.Tests.{eqb-true, lt-ltb}
+use Rattle.lists.specs.Lists.{_⇒_, all, any, keep, count, ascending, sort}
+use Rattle.lists.proofs.Tests.{imp-intro}
 use Rattle.lists.proofs.All.{all-keep, all-follows}
-use Rattle.lists.proofs.Count.{count-map, count-keep, count-under, all-map}
+use Rattle.lists.proofs.Count.{count-map, count-keep, all-map}
 use Rattle.lists.proofs.Sort.{count-sort, all-sort, ascending-once, ascending-same, sort-ascends}
-use Rattle.graph.specs.Graph.{Edge, Graph, Direction, near, entry, key}
+use Rattle.graph.specs.Graph.{Edge, Graph, Direction, near, entry}
 use Rattle.graph.specs.Store.{storeOf}
 use Rattle.graph.proofs.WellFormed.{WellFormed, Fitting, fitting, fitting-edge, edge-fitting}
 use Rattle.graph.proofs.Keys.{entry-fits, far-in}
 use Rattle.graph.proofs.VertexLists.{listAt, vertex-ascends, vertex-count}
 use Rattle.store.specs.Portion.{listOf}
-use Rattle.store.proofs.Members.{kept}
-use Rattle.store.proofs.Ascending.{ascending-keep, ascending-map}
+use Rattle.store.proofs.Members.{any-count}
 
 -- Counting and testing in a list is counting and testing over the vertex's edges.
 pub list-count : (p : ℕ → Bool) (d : Direction) (g : Graph) (x : ℕ)
@@ -35,6 +34,11 @@ unfolding listOf
 list-all p d g x =
     let mine : List Edge = keep (λ (e : Edge). eqb (near d e) x) (g .edges) in
     all-sort p (map (entry d) mine) ∙ all-map p (entry d) mine ∙ all-keep (λ (e : Edge). p (entry d e)) (λ (e : Edge). eqb (near d e) x) (g .edges)
+
+pub list-any : (p : ℕ → Bool) (d : Direction) (g : Graph) (x : ℕ)
+    → any p (listOf d g x) ≡ any (λ (e : Edge). eqb (near d e) x && p (entry d e)) (g .edges)
+list-any p d g x =
+    any-count p (listOf d g x) ∙ ap (ltb 0) (list-count p d g x) ∙ sym (any-count (λ (e : Edge). eqb (near d e) x && p (entry d e)) (g .edges))
 
 module _ (g : Graph) (w : WellFormed g) (d : Direction) (x : ℕ) where
   -- A test counts in the list what it counts in the words of a store.
@@ -61,8 +65,8 @@ module _ (g : Graph) (w : WellFormed g) (d : Direction) (x : ℕ) where
       (λ e t. imp-intro (eqb (near d e) x) (p (entry d e)) (λ i. h e (fitting-edge (g .vertices) e t) (eqb-true (near d e) x i)))
 
   -- An entry: a label from 1 to 255 and a neighbour below N.
-  pub entries-given : all (λ (k : ℕ). leb 65536 k) (listOf d g x) ≡ true
-  entries-given = list-entries (λ (k : ℕ). leb 65536 k) (λ e f i. le-leb 65536 (entry d e) (omega arith))
+  pub entries-given : all (λ (k : ℕ). ltb 65535 k) (listOf d g x) ≡ true
+  entries-given = list-entries (λ (k : ℕ). ltb 65535 k) (λ e f i. lt-ltb 65535 (entry d e) (omega arith))
 
   pub entries-fit : all (λ (k : ℕ). ltb k 16777216) (listOf d g x) ≡ true
   entries-fit =

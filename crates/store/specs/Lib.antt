@@ -1,3 +1,4 @@
--- The store's lookup: a vertex's list, and its portion for one label.
+-- The store's lookup: a vertex's list, and its portion for one label; and the parts of the store check.
 pub mod Side
 pub mod Portion
+pub mod Check

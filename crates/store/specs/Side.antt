@@ -16,14 +16,20 @@ pub record Within (store : List ℕ) (n side v : ℕ) : Type 0 where
   pub rises : getD store (side + v) 0 ≤ getD store (side + v + 1) 0
   pub ends : side + n + 1 + getD store (side + v + 1) 0 ≤ length store
 
--- Where the side of a direction begins in a store, by the counts that its first two words name.
+-- N and M, as the first two words of a store name them, and where the side of a direction begins by them.
+abbrev pub verticesIn : List ℕ → ℕ
+verticesIn store = getD store 0 0
+
+abbrev pub edgesIn : List ℕ → ℕ
+edgesIn store = getD store 1 0
+
 abbrev pub sideIn : Direction → List ℕ → ℕ
-sideIn d store = sideAt d (getD store 0 0) (getD store 1 0)
+sideIn d store = sideAt d (verticesIn store) (edgesIn store)
 
 -- A vertex of a store that is not refused, and where the side of a direction begins in it.
 pub record Lookup (store : List ℕ) (n side v : ℕ) : Type 0 where
   pub accepted : storeFault store ≡ 0
-  pub vertices : n ≡ getD store 0 0
+  pub vertices : n ≡ verticesIn store
   pub vertex-in : v < n
   pub direction : Direction
   pub begins : side ≡ sideIn direction store

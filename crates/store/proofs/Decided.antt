@@ -1,0 +1,146 @@
+-- The tests of the store check, taken together, are refusal 19. Assumes nothing.
+use mathlib.Core.Path.{_≡_, refl, sym, _∙_, ap}
+use mathlib.Core.Bool.{Bool, true, false, _&&_}
+use mathlib.Core.List.{List}
+use Prim.Native.Nat.{ℕ, suc, _+_, _-_}
+use native.Mathlib.Omega.{arith}
+use lib.Dec.{ltb}
+use lib.ListN.{take, drop}
+use Rattle.lists.specs.Lists.{all, same}
+use Rattle.lists.proofs.Tests.{and-l}
+use Rattle.graph.specs.Graph.{Direction, forward, backward}
+use Rattle.graph.specs.Store.{graphIn, storeOf, storeSize, wellFormed, storeFault}
+use Rattle.store.specs.Side.{verticesIn, edgesIn, sideIn}
+use Rattle.store.specs.Check.{unless, countsFit, labelsFit, offsetsFit, offsetsOn, sideFits, sideGood, GoodSide, sideMirrored, turned, Counted}
+use Rattle.store.proofs.Counting.{counted-as, forward-room, backward-room}
+use Rattle.store.proofs.Loops.{answer-hands, answer-passes}
+use Rattle.store.proofs.Fits.{good-side}
+use Rattle.store.proofs.Spelt.{Passed, passed-accepted}
+use Rattle.store.proofs.Tested.{accepted-passed}
+
+-- ---- a side
+
+-- The answer to the test of the part of a store that holds a side's offsets.
+module _ (store : List ℕ) (n m side : ℕ) {r : ℕ} (e : r ≡ unless (offsetsFit m (take (side + n + 1 - side) (drop side store)))) where
+  answered : r ≡ unless (offsetsFit m (offsetsOn store n side))
+  answered = e ∙ ap (λ (k : ℕ). unless (offsetsFit m (take k (drop side store)))) (let i : side + n + 1 - side ≡ suc n = omega arith in i)
+
+  pub offsets-refused : (r ≡ 0 → ⊥) → r ≡ unless (sideGood store n m side)
+  offsets-refused h =
+      answer-hands (offsetsFit m (offsetsOn store n side)) (sideGood store n m side) answered h
+      (and-l (offsetsFit m (offsetsOn store n side)) (sideFits store n side))
+
+  pub offsets-pass : r ≡ 0 → offsetsFit m (offsetsOn store n side) ≡ true
+  offsets-pass z = answer-passes (offsetsFit m (offsetsOn store n side)) answered z
+
+  -- Then the lists decide.
+  pub offsets-then : r ≡ 0 → unless (sideFits store n side) ≡ unless (sideGood store n m side)
+  offsets-then z = ap (λ (b : Bool). unless (b && sideFits store n side)) (sym (offsets-pass z))
+
+-- ---- the whole
+
+-- The labels stand before the forward side.
+abbrev pub labelsBefore : List ℕ → ℕ → Bool
+labelsBefore store one = all (λ (l : ℕ). ltb l 65536) (take (one - 2) (drop 2 store))
+
+labels-part : (store : List ℕ) → labelsFit store ≡ labelsBefore store (sideIn forward store)
+unfolding labelsFit
+labels-part store =
+    ap (λ (k : ℕ). all (λ (l : ℕ). ltb l 65536) (take k (drop 2 store))) (let e : verticesIn store ≡ sideIn forward store - 2 = omega arith in e)
+
+-- The tests that follow those of the counts, by the counts and by where the sides begin.
+record PassedAt (store : List ℕ) (n m one two : ℕ) : Type 0 where
+  labels : labelsBefore store one ≡ true
+  there : sideGood store n m one ≡ true
+  back : sideGood store n m two ≡ true
+  mirrored-there : sideMirrored store n one two ≡ true
+  mirrored-back : sideMirrored store n two one ≡ true
+
+-- The tests of both directions.
+module _ {store : List ℕ} (k : countsFit store ≡ true) (p : PassedAt store (verticesIn store) (edgesIn store) (sideIn forward store) (sideIn backward store)) where
+  sides : (d : Direction) → sideGood store (verticesIn store) (edgesIn store) (sideIn d store) ≡ true
+  sides forward = p .there
+  sides backward = p .back
+
+  mirrored : (d : Direction) → sideMirrored store (verticesIn store) (sideIn d store) (sideIn (turned d) store) ≡ true
+  mirrored forward = p .mirrored-there
+  mirrored backward = p .mirrored-back
+
+  all-passed : Passed store
+  all-passed =
+      record {
+        counts = k;
+        labels = labels-part store ∙ p .labels;
+        sides = sides;
+        mirrors = mirrored;
+      }
+
+module _ {store : List ℕ} {n m one two : ℕ} (k : Counted store n m one two) where
+  passed-at : Passed store → PassedAt store n m one two
+  passed-at p =
+      counted-as k (PassedAt store)
+      (record {
+        labels = sym (labels-part store) ∙ p .labels;
+        there = p .sides forward;
+        back = p .sides backward;
+        mirrored-there = p .mirrors forward;
+        mirrored-back = p .mirrors backward;
+      })
+
+  at-passed : PassedAt store n m one two → Passed store
+  at-passed = counted-as k (λ (a b c d : ℕ). PassedAt store a b c d → Passed store) (all-passed (k .counts))
+
+-- An answer other than 0 to a test that every accepted store passes is the refusal.
+refuses : (store : List ℕ) (b : Bool) {r : ℕ} → r ≡ unless b → (r ≡ 0 → ⊥) → (Passed store → b ≡ true) → r ≡ storeFault store
+unfolding storeFault
+refuses store b e h f =
+    answer-hands b (wellFormed (graphIn store) && same (take (storeSize (graphIn store)) store) (storeOf (graphIn store))) e h
+    (λ t. f (accepted-passed store (ap unless t)))
+
+-- The answer to the last test is the refusal.
+decides : (store : List ℕ) (b : Bool) {r : ℕ} → r ≡ unless b → (Passed store → b ≡ true) → (b ≡ true → Passed store) → r ≡ storeFault store
+decides store true e f g = e ∙ sym (passed-accepted store (g refl))
+decides store false {r} e f g = refuses store false e (λ z. omega arith) f
+
+pub counts-refuse : (store : List ℕ) {r : ℕ} → r ≡ unless (countsFit store) → (r ≡ 0 → ⊥) → r ≡ storeFault store
+counts-refuse store e h = refuses store (countsFit store) e h (λ p. p .counts)
+
+-- The answers in turn: where one is not 0 it is the refusal, and where it is 0 its test is passed.
+module _ {store : List ℕ} {n m one two : ℕ} (k : Counted store n m one two) {r : ℕ} where
+  pub labels-refuse : r ≡ unless (labelsBefore store one) → (r ≡ 0 → ⊥) → r ≡ storeFault store
+  labels-refuse e h = refuses store (labelsBefore store one) e h (λ p. passed-at k p .labels)
+
+  pub there-refuses : r ≡ unless (sideGood store n m one) → (r ≡ 0 → ⊥) → r ≡ storeFault store
+  there-refuses e h = refuses store (sideGood store n m one) e h (λ p. passed-at k p .there)
+
+  pub back-refuses : r ≡ unless (sideGood store n m two) → (r ≡ 0 → ⊥) → r ≡ storeFault store
+  back-refuses e h = refuses store (sideGood store n m two) e h (λ p. passed-at k p .back)
+
+  pub mirrors-refuse : r ≡ unless (sideMirrored store n one two) → (r ≡ 0 → ⊥) → r ≡ storeFault store
+  mirrors-refuse e h = refuses store (sideMirrored store n one two) e h (λ p. passed-at k p .mirrored-there)
+
+  pub labels-pass : r ≡ unless (labelsBefore store one) → r ≡ 0 → labelsBefore store one ≡ true
+  labels-pass e z = answer-passes (labelsBefore store one) e z
+
+  pub there-passes : r ≡ unless (sideGood store n m one) → r ≡ 0 → sideGood store n m one ≡ true
+  there-passes e z = answer-passes (sideGood store n m one) e z
+
+  pub back-passes : r ≡ unless (sideGood store n m two) → r ≡ 0 → sideGood store n m two ≡ true
+  back-passes e z = answer-passes (sideGood store n m two) e z
+
+  pub mirrors-pass : r ≡ unless (sideMirrored store n one two) → r ≡ 0 → sideMirrored store n one two ≡ true
+  mirrors-pass e z = answer-passes (sideMirrored store n one two) e z
+
+  -- The last one decides.
+  pub last-decides : r ≡ unless (sideMirrored store n two one) → labelsBefore store one ≡ true → sideGood store n m one ≡ true → sideGood store n m two ≡ true
+      → sideMirrored store n one two ≡ true → r ≡ storeFault store
+  last-decides e labels there back mirrored =
+      decides store (sideMirrored store n two one) e (λ p. passed-at k p .mirrored-back)
+      (λ t. at-passed k (record { labels = labels; there = there; back = back; mirrored-there = mirrored; mirrored-back = t }))
+
+  -- What the mirrors need of the sides.
+  pub there-good : r ≡ unless (sideGood store n m one) → r ≡ 0 → GoodSide store n one
+  there-good e z = good-side store n m one (forward-room k) (there-passes e z)
+
+  pub back-good : r ≡ unless (sideGood store n m two) → r ≡ 0 → GoodSide store n two
+  back-good e z = good-side store n m two (backward-room k) (back-passes e z)

@@ -1,0 +1,237 @@
+-- A store that passes every test of the check spells a well-formed graph, and its words are those that this graph is loaded
+-- to. Assumes nothing.
+use mathlib.Core.Path.{_≡_, sym, _∙_, ap, ap₂, fun-ext, subst}
+use mathlib.Core.Bool.{Bool, true, _&&_}
+use mathlib.Core.List.{List, _∷_, _++_, map, map-map, flatMap}
+use Prim.Native.Nat.{ℕ, suc, _+_, _-_, _*_, _/_, _%_, _≤_, _<_}
+use native.Mathlib.Omega.{arith}
+use lib.Dec.{ltb}
+use lib.ListN.{length, getD, take, drop, length-map, length-drop, take-append-drop}
+use lib.Seq.{length-take-le, getD-drop, drop-cons, drop-drop}
+use borrow.Author.Tests.{ltb-true, lt-ltb}
+use Rattle.lists.specs.Lists.{range, all, count, ascending, sort}
+use Rattle.lists.proofs.Tests.{iff, and-l, and-r, and-both}
+use Rattle.lists.proofs.All.{all-at, all-range, all-follows, all-and, map-getD}
+use Rattle.lists.proofs.Count.{all-map, all-flatMap}
+use Rattle.lists.proofs.Sort.{sort-ascending}
+use Rattle.graph.specs.Graph.{Edge, Graph, Direction, forward, backward, key}
+use Rattle.graph.specs.Store.{usedWords, listIn, edgeOf, graphIn, offsets, entries, storeOf, storeFault}
+use Rattle.graph.proofs.WellFormed.{WellFormed, fitting, edge-fitting, formed-well}
+use Rattle.graph.proofs.Maps.{map-under}
+use Rattle.graph.proofs.Keys.{keys-ascend, keys-below}
+use Rattle.graph.proofs.Parts.{offset, side, store-shape}
+use Rattle.graph.proofs.StoreGraph.{store-accepted}
+use Rattle.store.specs.Side.{listOn, verticesIn, edgesIn, sideIn}
+use Rattle.store.specs.Check.{countsFit, labelsFit, offsetsFit, offsetsOn, sideFits, sideGood, GoodSide, member, mirror, listMirrored, sideMirrored, turned}
+use Rattle.store.proofs.Counting.{Counts, counts-fit}
+use Rattle.store.proofs.Members.{member-sort}
+use Rattle.store.proofs.Ascending.{ascending-members}
+use Rattle.store.proofs.Accepted.{side-ends}
+use Rattle.store.proofs.KeyLists.{map-flatMap, keyAt, keysOf, Fit, keys-entries, keys-ascending, keys-before, pair-some, some-pair}
+use Rattle.store.proofs.Offsets.{Rising, offsets-rising, offsets-lists, offsets-length}
+use Rattle.store.proofs.Fits.{goodEntry, Entry, good-entry, fit-entries, good-side, side-list, side-ascends}
+
+-- The tests, all passed.
+pub record Passed (store : List ℕ) : Type 0 where
+  pub counts : countsFit store ≡ true
+  pub labels : labelsFit store ≡ true
+  pub sides : (d : Direction) → sideGood store (verticesIn store) (edgesIn store) (sideIn d store) ≡ true
+  pub mirrors : (d : Direction) → sideMirrored store (verticesIn store) (sideIn d store) (sideIn (turned d) store) ≡ true
+
+-- The list of v on the side of a direction.
+abbrev pub listTo : List ℕ → Direction → ℕ → List ℕ
+listTo store d v = listOn store (verticesIn store) (sideIn d store) v
+
+-- The words that `graphIn` reads are the forward lists.
+list-in : (store : List ℕ) (v : ℕ) → listIn store v ≡ listTo store forward v
+list-in store v =
+    let n : ℕ = verticesIn store in
+    let from : ℕ = getD store (2 + n + v) 0 in
+    ap₂ (λ (to base : ℕ). take (getD store to 0 - from) (drop base store))
+    (let e : 2 + n + suc v ≡ 2 + n + v + 1 = omega arith in e) (let e : 3 + 2 * n + from ≡ 2 + n + n + 1 + from = omega arith in e)
+
+edges-in : (store : List ℕ) → graphIn store .edges ≡ flatMap (λ (v : ℕ). map (edgeOf v) (listTo store forward v)) (range (verticesIn store))
+unfolding graphIn
+edges-in store = ap (λ (f : ℕ → List Edge). flatMap f (range (verticesIn store))) (fun-ext (λ v. ap (map (edgeOf v)) (list-in store v)))
+
+-- The keys of its edges in a direction.
+edge-keys : (d : Direction) (store : List ℕ)
+    → map (key d) (graphIn store .edges) ≡ flatMap (λ (v : ℕ). map (λ (k : ℕ). key d (edgeOf v k)) (listTo store forward v)) (range (verticesIn store))
+edge-keys d store =
+    ap (map (key d)) (edges-in store)
+    ∙ map-flatMap (key d) (λ (v : ℕ). map (edgeOf v) (listTo store forward v)) (range (verticesIn store))
+    ∙ ap (λ (f : ℕ → List ℕ). flatMap f (range (verticesIn store))) (fun-ext (λ v. map-map (key d) (edgeOf v) (listTo store forward v)))
+
+forward-keys : (store : List ℕ) → map (key forward) (graphIn store .edges) ≡ keysOf (listTo store forward) (verticesIn store)
+unfolding keysOf
+forward-keys store =
+    edge-keys forward store
+    ∙ ap (λ (f : ℕ → ℕ → ℕ). flatMap (λ (v : ℕ). map (f v) (listTo store forward v)) (range (verticesIn store)))
+    (fun-ext (λ v. fun-ext (λ k. let e : key forward (edgeOf v k) ≡ keyAt v k = omega arith in e)))
+
+module _ (store : List ℕ) (passed : Passed store) where
+  counted : Counts store
+  counted = counts-fit store (passed .counts)
+
+  abbrev n : ℕ
+  n = verticesIn store
+
+  abbrev m : ℕ
+  m = edgesIn store
+
+  abbrev g : Graph
+  g = graphIn store
+
+  side-room : (d : Direction) → sideIn d store + n + 1 + m ≤ length store
+  side-room d = omega (arith, side-ends d n m, counted .room)
+
+  rising : (d : Direction) → Rising m n (λ (v : ℕ). getD store (sideIn d store + v) 0)
+  rising d =
+      offsets-rising store n m (sideIn d store) (side-room d)
+      (and-l (offsetsFit m (offsetsOn store n (sideIn d store))) (sideFits store n (sideIn d store)) (passed .sides d))
+
+  good : (d : Direction) → GoodSide store n (sideIn d store)
+  good d = good-side store n m (sideIn d store) (side-room d) (passed .sides d)
+
+  list-good : (d : Direction) (v : ℕ) → v < n → all (goodEntry n) (listTo store d v) ≡ true
+  list-good d v h = fit-entries n (listTo store d v) (side-list (good d) v h)
+
+  list-fit : (d : Direction) → Fit (listTo store d) n
+  list-fit d v h =
+      all-follows (goodEntry n) (λ (k : ℕ). ltb k 16777216) (listTo store d v) (list-good d v h)
+      (λ k t. lt-ltb k 16777216 (good-entry n k t .fits))
+
+  -- M edges, in their ranges, ascending.
+  edge-count : length (g .edges) ≡ m
+  edge-count =
+      sym (length-map (g .edges) (key forward)) ∙ ap length (forward-keys store)
+      ∙ sym (length-map (keysOf (listTo store forward) n) (λ (k : ℕ). k % 16777216)) ∙ ap length (keys-entries (listTo store forward) n (list-fit forward))
+      ∙ offsets-length store n m (sideIn forward store) (side-room forward) (rising forward) n (omega arith) ∙ rising forward .ends
+
+  edges-fit : all (fitting n) (g .edges) ≡ true
+  edges-fit =
+      ap (all (fitting n)) (edges-in store)
+      ∙ all-flatMap (fitting n) (λ (v : ℕ). map (edgeOf v) (listTo store forward v)) (range n)
+      ∙ all-range (λ (v : ℕ). all (fitting n) (map (edgeOf v) (listTo store forward v))) n
+      (λ v h.
+      all-map (fitting n) (edgeOf v) (listTo store forward v)
+      ∙ all-follows (goodEntry n) (λ (k : ℕ). fitting n (edgeOf v k)) (listTo store forward v) (list-good forward v h)
+      (λ k t.
+      let f : Entry n k = good-entry n k t in
+      edge-fitting n (edgeOf v k) (record { source-in = h; target-in = f .inside; label-given = omega arith; label-fits = omega arith })))
+
+  well : WellFormed g
+  unfolding graphIn labelsFit
+  well =
+      record {
+        few-vertices = counted .few-vertices;
+        few-edges = rw edge-count (counted .few-edges);
+        labelled = length-take-le n (drop 2 store) (rw length-drop (let r : usedWords n m ≤ length store = counted .room in omega arith));
+        labels-fit = passed .labels;
+        edges-fit = edges-fit;
+        edges-ascend = ap ascending (forward-keys store) ∙ keys-ascending (listTo store forward) n (list-fit forward) (side-ascends (good forward));
+      }
+
+  -- Each entry has its mirror on the other side.
+  mirrored : (d : Direction) (v : ℕ) → v < n
+      → all (λ (k : ℕ). goodEntry n k && member (mirror v k) (listTo store (turned d) (k % 65536))) (listTo store d v) ≡ true
+  unfolding sideMirrored listMirrored
+  mirrored d v h =
+      all-and (goodEntry n) (λ (k : ℕ). member (mirror v k) (listTo store (turned d) (k % 65536))) (listTo store d v)
+      ∙ and-both (all (goodEntry n) (listTo store d v)) (all (λ (k : ℕ). member (mirror v k) (listTo store (turned d) (k % 65536))) (listTo store d v))
+      (list-good d v h)
+      (all-at (λ (u : ℕ). listMirrored store n (sideIn (turned d) store) u (listTo store d u)) n (passed .mirrors d) v h)
+
+  -- So the backward lists have the backward keys of the edges, and no others.
+  backward-keys : (k : ℕ) → member k (map (key backward) (g .edges)) ≡ member k (keysOf (listTo store backward) n)
+  unfolding keysOf
+  backward-keys k =
+      ap (member k) (edge-keys backward store)
+      ∙ iff (member k edges) (member k (keysOf (listTo store backward) n))
+      (λ t.
+      pair-some (has backward) (λ (v j : ℕ). key backward (edgeOf v j)) (listTo store forward) n k (mirrored forward) t
+      (λ v j h s e.
+      let f : Entry n j = good-entry n j (and-l (goodEntry n j) (member (mirror v j) (listTo store backward (j % 65536))) s) in
+      subst (λ (i : ℕ). member i (keysOf (listTo store backward) n) ≡ true)
+      (let i : keyAt (j % 65536) (mirror v j) ≡ k = omega arith in i)
+      (some-pair keyAt (listTo store backward) n (j % 65536) (mirror v j) (f .inside)
+      (and-r (goodEntry n j) (member (mirror v j) (listTo store backward (j % 65536))) s))))
+      (λ t.
+      pair-some (has forward) keyAt (listTo store backward) n k (mirrored backward) t
+      (λ v j h s e.
+      let f : Entry n j = good-entry n j (and-l (goodEntry n j) (member (mirror v j) (listTo store forward (j % 65536))) s) in
+      subst (λ (i : ℕ). member i edges ≡ true)
+      (let a : v < 65536 = omega (arith, counted .few-vertices) in
+      let b : mirror v j % 65536 ≡ v = omega arith in
+      let c : mirror v j / 65536 ≡ j / 65536 = omega arith in
+      let i : key backward (edgeOf (j % 65536) (mirror v j)) ≡ k = omega arith in i)
+      (some-pair (λ (v j : ℕ). key backward (edgeOf v j)) (listTo store forward) n (j % 65536) (mirror v j) (f .inside)
+      (and-r (goodEntry n j) (member (mirror v j) (listTo store forward (j % 65536))) s))))
+    where
+      has : Direction → ℕ → ℕ → Bool
+      has d v j = goodEntry n j && member (mirror v j) (listTo store d (j % 65536))
+
+      edges : List ℕ
+      edges = flatMap (λ (v : ℕ). map (λ (j : ℕ). key backward (edgeOf v j)) (listTo store forward v)) (range n)
+
+  -- The keys in order are those of the lists, one after the other.
+  sorted : (d : Direction) → sort (map (key d) (g .edges)) ≡ keysOf (listTo store d) n
+  sorted forward = sort-ascending (map (key forward) (g .edges)) (well .edges-ascend) ∙ forward-keys store
+  sorted backward =
+      ascending-members _ _ (keys-ascend g well backward) (keys-ascending (listTo store backward) n (list-fit backward) (side-ascends (good backward)))
+      (λ k. member-sort k (map (key backward) (g .edges)) ∙ backward-keys k)
+
+  -- Its offsets and entries are those of the graph.
+  offset-spelt : (d : Direction) (v : ℕ) → v ≤ n → offset d g v ≡ getD (drop (sideIn d store) store) v 0
+  offset-spelt d v h =
+      keys-below g well d v ∙ ap (count (λ (k : ℕ). ltb k (v * 16777216))) (sorted d)
+      ∙ keys-before (listTo store d) n v (list-fit d) h
+      ∙ offsets-length store n m (sideIn d store) (side-room d) (rising d) v h
+      ∙ sym (getD-drop (sideIn d store) store v 0)
+
+  offsets-spelt : (d : Direction) → offsets d g ≡ offsetsOn store n (sideIn d store)
+  unfolding offsets graphIn
+  offsets-spelt d =
+      map-under (λ (v : ℕ). ltb v (suc n)) (offset d g) (λ (v : ℕ). getD (drop (sideIn d store) store) v 0) (range (suc n))
+      (all-range (λ (v : ℕ). ltb v (suc n)) (suc n) (λ v l. lt-ltb v (suc n) l))
+      (λ v t. offset-spelt d v (let l : v < suc n = ltb-true v (suc n) t in omega arith))
+      ∙ map-getD (drop (sideIn d store) store) (suc n) (rw length-drop (let l : sideIn d store + n + 1 + m ≤ length store = side-room d in omega arith))
+
+  entries-spelt : (d : Direction) → entries d g ≡ take m (drop (sideIn d store + n + 1) store)
+  unfolding entries
+  entries-spelt d =
+      ap (map (λ (k : ℕ). k % 16777216)) (sorted d) ∙ keys-entries (listTo store d) n (list-fit d)
+      ∙ offsets-lists store n m (sideIn d store) (side-room d) (rising d) n (omega arith)
+      ∙ ap (λ (k : ℕ). take k (drop (sideIn d store + n + 1) store)) (rising d .ends)
+
+  -- Its words, part after part.
+  side-spelt : (d : Direction) → drop (sideIn d store) store ≡ side d g (drop (sideIn d store + n + 1 + m) store)
+  side-spelt d =
+      sym (take-append-drop (suc n) (drop (sideIn d store) store))
+      ∙ ap₂ (λ (a b : List ℕ). a ++ b) (sym (offsets-spelt d))
+      (drop-drop (suc n) (sideIn d store) store
+      ∙ ap (λ (k : ℕ). drop k store) (let e : sideIn d store + suc n ≡ sideIn d store + n + 1 = omega arith in e)
+      ∙ sym (take-append-drop m (drop (sideIn d store + n + 1) store))
+      ∙ ap₂ (λ (a b : List ℕ). a ++ b) (sym (entries-spelt d)) (drop-drop m (sideIn d store + n + 1) store))
+
+  store-spelt : store ≡ storeOf g ++ drop (sideIn backward store + n + 1 + m) store
+  unfolding graphIn
+  store-spelt =
+      drop-cons store 0 0 (omega (arith, counted .named))
+      ∙ ap (λ (l : List ℕ). n ∷ l) (drop-cons store 1 0 (counted .named))
+      ∙ ap (λ (l : List ℕ). n ∷ m ∷ l)
+      (sym (take-append-drop n (drop 2 store))
+      ∙ ap (λ (l : List ℕ). take n (drop 2 store) ++ l)
+      (drop-drop n 2 store ∙ side-spelt forward
+      ∙ ap (side forward g) (ap (λ (k : ℕ). drop k store) (let e : sideIn forward store + n + 1 + m ≡ sideIn backward store = omega arith in e) ∙ side-spelt backward)))
+      ∙ ap (λ (k : ℕ). (n ∷ k ∷ take n (drop 2 store)) ++ side forward g (side backward g rest)) (sym edge-count)
+      ∙ sym (store-shape g rest)
+    where
+      rest : List ℕ
+      rest = drop (sideIn backward store + n + 1 + m) store
+
+-- So it is not refused.
+pub passed-accepted : (store : List ℕ) → Passed store → storeFault store ≡ 0
+passed-accepted store p =
+    subst (λ (s : List ℕ). storeFault s ≡ 0) (sym (store-spelt store p))
+    (store-accepted (graphIn store) (formed-well (graphIn store) (well store p)) _)

@@ -1,0 +1,213 @@
+// Refusal 19: whether some accepted graph file loads to a store. Each function answers 19 or 0.
+use crate::neighbours;
+use graph::Graph;
+use search::lower_bound;
+ghost use mathlib.Core.Path.{_≡_};
+ghost use mathlib.Core.Bool.{true};
+ghost use Prim.Native.Nat.{ℕ, _+_, _≤_, _<_};
+ghost use lib.Dec.{ltb};
+ghost use lib.ListN.{length};
+ghost use Rattle.lists.specs.Lists.{all, ascending};
+ghost use Rattle.graph.specs.Store.{storeFault};
+ghost use Rattle.store.specs.Side.{Within};
+ghost use Rattle.store.specs.Check.{unless, countsFit, member, offsetsFit, listFits, sideFits, sideGood, GoodSide, listMirrored, sideMirrored, Counted};
+
+// 19 where a word is not below an end, else 0.
+fn words_fault(part: &[u32], end: u32) -> u32
+    ensures { λ r. ⌜ r ≡ unless (all (λ (k : ℕ). ltb k end) (now (part .entry))) ⌝ }
+{
+    let mut i = 0;
+    while i < part.len() {
+        if end <= part[i] {
+            return 19;
+        }
+        i += 1;
+    }
+    0
+}
+
+// 19 unless the words start at 0, never fall, and end at m; else 0.
+fn offsets_fault(part: &[u32], m: u32) -> u32
+    requires { ⌜ 0 < length (now part) ⌝ }
+    ensures { λ r. ⌜ r ≡ unless (offsetsFit m (now (part .entry))) ⌝ }
+{
+    if part[0] != 0 {
+        return 19;
+    }
+    let mut last = 0;
+    let mut i = 1;
+    while i < part.len() {
+        if part[i] < last {
+            return 19;
+        }
+        last = part[i];
+        i += 1;
+    }
+    if last != m {
+        return 19;
+    }
+    0
+}
+
+// 19 unless the entries of a vertex ascend strictly, with labels 1 to 255 and neighbours below n; else 0.
+fn list_fault(list: &[u32], n: usize) -> u32
+    ensures { λ r. ⌜ r ≡ unless (listFits n (now (list .entry))) ⌝ }
+{
+    let mut last = Graph::SPAN - 1;
+    let mut i = 0;
+    while i < list.len() {
+        let entry = list[i];
+        if entry <= last {
+            return 19;
+        }
+        if Graph::ENTRY_END <= entry {
+            return 19;
+        }
+        if n <= (entry % Graph::SPAN) as usize {
+            return 19;
+        }
+        last = entry;
+        i += 1;
+    }
+    0
+}
+
+// 19 unless every list of a side is as it should be; else 0.
+fn lists_fault(store: &[u32], n: usize, side: usize) -> u32
+    requires { ⌜ ((v : ℕ) → v < n → Within (now store) n side v) ⌝ }
+    ensures { λ r. ⌜ r ≡ unless (sideFits (now (store .entry)) n side) ⌝ }
+{
+    let mut v = 0;
+    while v < n {
+        let fault = list_fault(neighbours(store, n, side, v), n);
+        if fault != 0 {
+            return fault;
+        }
+        v += 1;
+    }
+    0
+}
+
+// 19 unless the offsets of a side and its lists are as they should be; else 0.
+fn side_fault(store: &[u32], n: usize, m: u32, side: usize) -> u32
+    requires { ⌜ side + n + 1 + m ≤ length (now store) ⌝ }
+    ensures { λ r. ⌜ r ≡ unless (sideGood (now (store .entry)) n m side) ⌝ }
+{
+    let fault = offsets_fault(&store[side..side + n + 1], m);
+    if fault != 0 {
+        return fault;
+    }
+    lists_fault(store, n, side)
+}
+
+// 19 where an ascending list lacks a word, else 0.
+fn absent_fault(list: &[u32], x: u32) -> u32
+    requires { ⌜ ascending (now list) ≡ true ⌝ }
+    ensures { λ r. ⌜ r ≡ unless (member x (now (list .entry))) ⌝ }
+{
+    let i = lower_bound(list, x);
+    if i == list.len() {
+        return 19;
+    }
+    if list[i] != x {
+        return 19;
+    }
+    0
+}
+
+// 19 where an entry of vertex v lacks its mirror on the other side: its neighbour's entry of the same label and v; else 0.
+fn mirror_fault(store: &[u32], n: usize, other: usize, v: usize, list: &[u32]) -> u32
+    requires { ⌜ GoodSide (now store) n other ⌝ }
+    requires { ⌜ listFits n (now list) ≡ true ⌝ }
+    requires { ⌜ (v < n) × (n < 65536) ⌝ }
+    ensures { λ r. ⌜ r ≡ unless (listMirrored (now (store .entry)) n other v (now (list .entry))) ⌝ }
+{
+    let mut i = 0;
+    while i < list.len() {
+        let entry = list[i];
+        let x = entry % Graph::SPAN;
+        let fault = absent_fault(
+            neighbours(store, n, other, x as usize),
+            entry - x + v as u32,
+        );
+        if fault != 0 {
+            return fault;
+        }
+        i += 1;
+    }
+    0
+}
+
+// 19 unless every entry of a side is mirrored on the other; else 0.
+fn mirrors_fault(store: &[u32], n: usize, side: usize, other: usize) -> u32
+    requires { ⌜ GoodSide (now store) n side ⌝ }
+    requires { ⌜ GoodSide (now store) n other ⌝ }
+    requires { ⌜ n < 65536 ⌝ }
+    ensures { λ r. ⌜ r ≡ unless (sideMirrored (now (store .entry)) n side other) ⌝ }
+{
+    let mut v = 0;
+    while v < n {
+        let fault = mirror_fault(store, n, other, v, neighbours(store, n, side, v));
+        if fault != 0 {
+            return fault;
+        }
+        v += 1;
+    }
+    0
+}
+
+// 19 unless the counts of a store are within their limits and its words are there; else 0.
+fn counts_fault(store: &[u32]) -> u32
+    ensures { λ r. ⌜ r ≡ unless (countsFit (now (store .entry))) ⌝ }
+{
+    if store.len() < 2 {
+        return 19;
+    }
+    let g = Graph::of_store(store);
+    if Graph::MAX_VERTICES < g.vertices {
+        return 19;
+    }
+    if Graph::MAX_EDGES < g.edges {
+        return 19;
+    }
+    if store.len() < g.words() {
+        return 19;
+    }
+    0
+}
+
+// 19 where the labels or the sides of a store whose counts are right are not as they should be; else 0.
+fn sides_fault(store: &[u32], n: usize, m: u32, forward: usize, backward: usize) -> u32
+    requires { ⌜ Counted (now store) n m forward backward ⌝ }
+    ensures { λ r. ⌜ r ≡ storeFault (now (store .entry)) ⌝ }
+{
+    let labels = words_fault(&store[Graph::LABELS..forward], Graph::SPAN);
+    if labels != 0 {
+        return labels;
+    }
+    let one = side_fault(store, n, m, forward);
+    if one != 0 {
+        return one;
+    }
+    let two = side_fault(store, n, m, backward);
+    if two != 0 {
+        return two;
+    }
+    let mirrors = mirrors_fault(store, n, forward, backward);
+    if mirrors != 0 {
+        return mirrors;
+    }
+    mirrors_fault(store, n, backward, forward)
+}
+
+// 19 where no accepted graph file loads to this store, words past the used ones ignored; else 0.
+pub fn store_fault(store: &[u32]) -> u32
+    ensures { λ r. ⌜ r ≡ storeFault (now (store .entry)) ⌝ }
+{
+    let counts = counts_fault(store);
+    if counts != 0 {
+        return counts;
+    }
+    let g = Graph::of_store(store);
+    sides_fault(store, g.vertices, g.edges as u32, g.forward(), g.backward())
+}
