@@ -1,23 +1,23 @@
 -- Laws of the query file and its faults. Assumes nothing.
 use mathlib.Core.Path.{_≡_, refl, sym, _∙_, ap, ap₂}
-use mathlib.Core.Bool.{Bool, true, false, cond, not, _&&_, _||_}
-use mathlib.Core.List.{List, [], _∷_, _++_, map, append-assoc}
+use mathlib.Core.Bool.{Bool, true, false, not}
+use mathlib.Core.List.{List, [], _∷_, _++_, map}
 use Prim.Native.Nat.{ℕ, zero, suc, _+_, _*_, _^_, _≤_, _<_}
 use native.Mathlib.Numerals.{add-one}
 use native.Mathlib.Omega.{arith}
-use lib.Dec.{eqb, ltb, leb}
+use lib.Dec.{ltb}
 use lib.ListN.{length}
 use borrow.Author.Tests.{ltb-true, ltb-false, lt-ltb, le-ltb}
 use Rattle.lists.specs.Lists.{range}
 use Rattle.lists.specs.Refusal.{refuse, first}
-use Rattle.lists.proofs.Tests.{iff}
 use Rattle.lists.proofs.Faults.{first-head, first-tail, first-cons, refuse-zero, zero-refuse}
-use Rattle.packed.specs.Field.{fieldAt, bitsIn, bytesFor, fillSet}
+use Rattle.packed.specs.Field.{fieldAt, bitsIn, bytesFor}
 use Rattle.packed.proofs.Laws.{field-add, field-lt}
-use Rattle.graph.specs.Graph.{Edge}
 use Rattle.query.specs.Query.{connected}
-use Rattle.query.specs.File.{vertexCount, edgeCount, edgeStart, edgeIn, queryOf, outsideLimits, key, ascends, badEdge, edgeFault, queryFault}
-use Rattle.query.specs.Parts.{limitsFault, sizeFault, edgeFrom, keyFault, edgesFault, fileFault, Readable}
+use Rattle.query.specs.File.{vertexCount, edgeCount, edgeStart, edgeIn, queryOf, outsideLimits, key, edgeFault, queryFault}
+use Rattle.query.specs.Parts.{sizeFault, edgeFrom, keyFault, edgesFault, fileFault, Readable}
+use Rattle.query.specs.Answer.{structOf, Held}
+use Rattle.query.proofs.Structs.{held}
 use Rattle.query.proofs.Refusals.{first-some, first-one, first-group, first-after, first-stop, first-next}
 
 -- The three fields of an edge, read as one, are its key.
@@ -125,3 +125,7 @@ file-readable s e =
 
 pub query-readable : (s : List ℕ) → queryFault s ≡ 0 → Readable s
 query-readable s e = file-readable s (first-head (fileFault s) _ (sym (query-parts s) ∙ e))
+
+-- An accepted file's query is one that the code's functions take.
+pub query-held : (s : List ℕ) → queryFault s ≡ 0 → Held (structOf (queryOf s))
+query-held s e = held s (query-readable s e .limits)

@@ -6,3 +6,4 @@ pub mod Touch
 pub mod Steps
 pub mod Refusals
 pub mod FileLaws
+pub mod Limits

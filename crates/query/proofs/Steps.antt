@@ -1,16 +1,16 @@
 -- Laws of reaching: the vertices that an edge joins to a set, and those that k edges in a row lead to. Assumes nothing.
 use mathlib.Core.Path.{_≡_, refl, sym, _∙_, ap, ap₂, fun-ext}
 use mathlib.Core.Bool.{Bool, true, false, cond, not, _&&_, _||_, or-assoc, or-false, and-true, and-false}
-use mathlib.Core.List.{List, [], _∷_, _++_, map}
-use Prim.Native.Nat.{ℕ, zero, suc, _+_, _^_, _≤_, _<_}
+use mathlib.Core.List.{[], _∷_}
+use Prim.Native.Nat.{ℕ, zero, suc, _+_, _^_, _<_}
 use native.Mathlib.Numerals.{add-one}
 use native.Mathlib.Omega.{arith}
 use lib.Dec.{eqb, ltb}
 use lib.Bits.{bitOr}
-use borrow.Author.Tests.{ltb-true, ltb-false, lt-ltb, le-ltb, eqb-true, eqb-false, eq-eqb}
-use Rattle.lists.specs.Lists.{range, all, any, keep}
-use Rattle.lists.proofs.Tests.{clash, iff, fails, and-l, and-r, and-both, or-intro-l, or-intro-r, or-elim, eqb-refl, eqb-sym}
-use Rattle.lists.proofs.All.{keep-append, any-none}
+use borrow.Author.Tests.{ltb-true, lt-ltb, le-ltb, eqb-true, eqb-false}
+use Rattle.lists.specs.Lists.{range, any, keep}
+use Rattle.lists.proofs.Tests.{iff, and-l, eqb-sym}
+use Rattle.lists.proofs.All.{keep-append}
 use Rattle.query.specs.Query.{Query, VertexSet, among, touches, reached, connected}
 use Rattle.query.specs.Mask.{inMask, MaskOf, only, grown}
 use Rattle.query.proofs.Masks.{in-or, mask-all}

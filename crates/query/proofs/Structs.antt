@@ -1,7 +1,7 @@
 -- Laws of a query as the code has it. Assumes nothing.
-use mathlib.Core.Path.{_≡_, refl, sym, _∙_, ap, ap₂}
-use mathlib.Core.Bool.{Bool, true, false, not, _&&_}
-use mathlib.Core.List.{List, [], _∷_, _++_, map, map-map}
+use mathlib.Core.Path.{_≡_, refl, sym, _∙_, ap}
+use mathlib.Core.Bool.{true, false, _&&_}
+use mathlib.Core.List.{List, map, map-map}
 use Prim.Native.Nat.{ℕ, _+_, _*_, _≤_, _<_}
 use native.Mathlib.Omega.{arith}
 use lib.Dec.{leb}
@@ -12,13 +12,14 @@ use Rattle.lists.proofs.Tests.{and-l, and-r, not-false}
 use Rattle.packed.specs.Field.{fieldAt}
 use Rattle.packed.proofs.Laws.{field-lt}
 use Rattle.graph.specs.Graph.{Edge}
+use Rattle.graph.proofs.Maps.{map-indices}
 use Rattle.query.specs.Query.{Query, edgeAt}
 use Rattle.query.specs.File.{minVertices, maxVertices, minEdges, maxEdges, vertexCount, edgeCount, edgeStart, edgeIn, queryOf, outsideLimits}
 use Rattle.query.specs.Parts.{labelIn, edgeField}
 use Rattle.query.specs.Answer.{padded, edgeStruct, asEdge, structOf, edgeOf, queryIn, Held}
 use Rattle.query.specs.declared.Edge.{Edge as EdgeStruct}
 use Rattle.query.specs.declared.Query.{Query as QueryStruct}
-use Rattle.query.proofs.Images.{length-image, getD-image, image-ext, image-getD, getD-padded, take-padded}
+use Rattle.query.proofs.Images.{length-image, getD-image, image-ext, getD-padded, take-padded}
 
 abbrev noEdge : Edge
 noEdge = record { source = 0; label = 0; target = 0 }
@@ -50,7 +51,7 @@ in-struct q e =
     λ k. record {
       vertices = q .vertices;
       labels = (ap (λ (n : ℕ). take n (padded maxVertices (q .labels))) (sym e) ∙ take-padded maxVertices (q .labels)) k;
-      edges = (image-ext (edgeOf (structOf q)) (edgeAt q) (length (q .edges)) (edge-of q) ∙ image-getD (q .edges) _) k;
+      edges = map-indices (edgeOf (structOf q)) (q .edges) _ (edge-of q) k;
     }
 
 -- ---- the query of a file

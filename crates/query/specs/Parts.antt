@@ -1,15 +1,15 @@
 -- Parts of the query file and of Read query's refusal, which functions of the code answer one by one. Assumes nothing.
 use mathlib.Core.Path.{_≡_}
-use mathlib.Core.Bool.{Bool, false, not, _&&_}
+use mathlib.Core.Bool.{false, not, _&&_}
 use mathlib.Core.List.{List, [], _∷_, map}
-use Prim.Native.Nat.{ℕ, zero, suc, _+_, _*_, _≤_}
+use Prim.Native.Nat.{ℕ, _+_, _*_, _≤_}
 use lib.Dec.{leb, ltb}
 use lib.ListN.{length}
 use Rattle.lists.specs.Lists.{range}
 use Rattle.lists.specs.Refusal.{refuse, first}
 use Rattle.packed.specs.Field.{fieldAt, bitsIn, bytesFor, fillSet}
 use Rattle.graph.specs.Graph.{Edge}
-use Rattle.query.specs.File.{minVertices, maxVertices, minEdges, maxEdges, edgeCount, edgeStart, edgeIn, outsideLimits, key, badEdge, edgeFault}
+use Rattle.query.specs.File.{minVertices, maxVertices, minEdges, maxEdges, edgeCount, edgeStart, outsideLimits, key, badEdge, edgeFault}
 
 -- The label of vertex w.
 abbrev pub labelIn : List ℕ → ℕ → ℕ

@@ -1,6 +1,6 @@
 -- `query::file::edges_fault` meets its contract: no edge before i has a fault, and `least` is the least key that ascends at i.
 -- Assumes nothing.
-use mathlib.Core.Path.{_≡_, refl, sym, _∙_, ap}
+use mathlib.Core.Path.{_≡_, refl, sym, _∙_}
 use Prim.Native.Nat.{_-_, _≤_}
 use native.Mathlib.Omega.{arith}
 use borrow.Author.Needs.{needs}
