@@ -1,0 +1,2 @@
+-- Laws of Load: the file's faults, and the stable counting pass that fills the store.
+pub mod Refused

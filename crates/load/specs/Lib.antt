@@ -1,0 +1,2 @@
+-- Load: what its functions ask of a file, and what it answers.
+pub mod Reading
