@@ -1,2 +1,5 @@
 -- Laws of Load: the file's faults, and the stable counting pass that fills the store.
 pub mod Refused
+pub mod Grouped
+pub mod Sorted
+pub mod Sides
