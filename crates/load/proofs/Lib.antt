@@ -3,3 +3,4 @@ pub mod Refused
 pub mod Grouped
 pub mod Sorted
 pub mod Sides
+pub mod Placing
