@@ -4,3 +4,5 @@ pub mod Grouped
 pub mod Sorted
 pub mod Sides
 pub mod Placing
+pub mod Filling
+pub mod Counting
