@@ -6,3 +6,4 @@ pub mod Sides
 pub mod Placing
 pub mod Filling
 pub mod Counting
+pub mod ByLabel
