@@ -7,3 +7,4 @@ pub mod Placing
 pub mod Filling
 pub mod Counting
 pub mod ByLabel
+pub mod ByTarget

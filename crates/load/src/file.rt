@@ -1,9 +1,9 @@
 // The graph file: N (16 bits), M (20), N labels (16), then M edges of source (16), label (8), target (16); and its faults.
 ghost use mathlib.Core.Path.{_≡_};
-ghost use Prim.Native.Nat.{_+_, _*_, _≤_, _<_};
+ghost use Prim.Native.Nat.{_+_, _*_, _^_, _≤_, _<_};
 ghost use lib.ListN.{length};
 ghost use Rattle.packed.specs.Field.{fieldAt};
-ghost use Rattle.graph.specs.Graph.{forward, key};
+ghost use Rattle.graph.specs.Graph.{forward, backward, entry, key};
 ghost use Rattle.graph.specs.File.{vertexCount, edgeCount, edgeStart, edgeIn, fileSize, graphFault};
 ghost use Rattle.graph.specs.Store.{loadFault};
 ghost use Rattle.load.specs.Reading.{Whole, edgeWith, faultFrom, lengthFault, edgesFault};
@@ -35,30 +35,46 @@ fn edge_start(n: usize, i: usize) -> usize
 // One field of edge i: `width` bits, `offset` bits past the edge's start.
 pub fn edge_field(file: &[u8], n: usize, i: usize, offset: usize, width: usize) -> u32
     requires { ⌜ Whole (now file) n × (i < edgeCount (now file)) × (width ≤ 20) × (offset + width ≤ 40) ⌝ }
-    ensures { λ r. ⌜ r ≡ fieldAt (now (file .entry)) (edgeStart (now (file .entry)) i + offset) width ⌝ }
+    ensures { λ r. ⌜ (r ≡ fieldAt (now (file .entry)) (edgeStart (now (file .entry)) i + offset) width) × (r < 2 ^ width) ⌝ }
 {
     field(file, edge_start(n, i) + offset, width)
 }
 
 pub fn source(file: &[u8], n: usize, i: usize) -> u32
     requires { ⌜ Whole (now file) n × (i < edgeCount (now file)) ⌝ }
-    ensures { λ r. ⌜ r ≡ edgeIn (now (file .entry)) i .source ⌝ }
+    ensures { λ r. ⌜ (r ≡ edgeIn (now (file .entry)) i .source) × (r < 65536) ⌝ }
 {
     edge_field(file, n, i, 0, 16)
 }
 
 pub fn label(file: &[u8], n: usize, i: usize) -> u32
     requires { ⌜ Whole (now file) n × (i < edgeCount (now file)) ⌝ }
-    ensures { λ r. ⌜ r ≡ edgeIn (now (file .entry)) i .label ⌝ }
+    ensures { λ r. ⌜ (r ≡ edgeIn (now (file .entry)) i .label) × (r < 256) ⌝ }
 {
     edge_field(file, n, i, 16, 8)
 }
 
 pub fn target(file: &[u8], n: usize, i: usize) -> u32
     requires { ⌜ Whole (now file) n × (i < edgeCount (now file)) ⌝ }
-    ensures { λ r. ⌜ r ≡ edgeIn (now (file .entry)) i .target ⌝ }
+    ensures { λ r. ⌜ (r ≡ edgeIn (now (file .entry)) i .target) × (r < 65536) ⌝ }
 {
     edge_field(file, n, i, 24, 16)
+}
+
+// The entry of edge i on the forward side.
+pub fn forward_entry(file: &[u8], n: usize, i: usize) -> u32
+    requires { ⌜ Whole (now file) n × (i < edgeCount (now file)) ⌝ }
+    ensures { λ r. ⌜ r ≡ entry forward (edgeIn (now (file .entry)) i) ⌝ }
+{
+    label(file, n, i) * Graph::SPAN + target(file, n, i)
+}
+
+// The entry of edge i on the backward side.
+pub fn backward_entry(file: &[u8], n: usize, i: usize) -> u32
+    requires { ⌜ Whole (now file) n × (i < edgeCount (now file)) ⌝ }
+    ensures { λ r. ⌜ r ≡ entry backward (edgeIn (now (file .entry)) i) ⌝ }
+{
+    label(file, n, i) * Graph::SPAN + source(file, n, i)
 }
 
 // 1 where the file is shorter than 5 bytes or than its own size, 2 where it is longer or a fill bit is set, else 0.

@@ -37,9 +37,9 @@ returns c =
     (record {
       vertices = c .before .before .before .before .before .before .before .before .pre .0 .vertices;
       earlier = c .before .before .before .before .before .before .loop .inv .1;
-      source = c .before .before .before .before .source .ensures;
-      label = c .before .before .before .label .ensures;
-      target = c .before .before .target .ensures;
+      source = c .before .before .before .before .source .ensures .0;
+      label = c .before .before .before .label .ensures .0;
+      target = c .before .before .target .ensures .0;
       fault = c .before .edge-fault .ensures;
     })
     (omega arith) (c .if1 .taken)
@@ -63,9 +63,9 @@ loop-again c = (
       (record {
         vertices = c .before .before .before .before .before .before .before .before .before .pre .0 .vertices;
         earlier = c .before .before .before .before .before .before .before .loop .inv .1;
-        source = c .before .before .before .before .before .source .ensures;
-        label = c .before .before .before .before .label .ensures;
-        target = c .before .before .before .target .ensures;
+        source = c .before .before .before .before .before .source .ensures .0;
+        label = c .before .before .before .before .label .ensures .0;
+        target = c .before .before .before .target .ensures .0;
         fault = c .before .before .edge-fault .ensures;
       })
       (c .before .if1 .left) (c .edge-key .ensures),

@@ -11,7 +11,7 @@ edge-field-requires : tie.Need-edge-field-requires
 edge-field-requires c κs = search needs
 
 returns : tie.Need-returns
-returns c = c .edge-field .ensures ∙ ap (λ (at : ℕ). fieldAt (c .before .before .args .file .now) at 16) (add-zero _)
+returns c = (c .edge-field .ensures .0 ∙ ap (λ (at : ℕ). fieldAt (c .before .before .args .file .now) at 16) (add-zero _), search needs)
 
 pub source-spec : {M : Type 1} → statement M
 source-spec = tie.close (tie.spec edge-field-requires returns)
