@@ -8,3 +8,4 @@ pub mod Filling
 pub mod Counting
 pub mod ByLabel
 pub mod ByTarget
+pub mod Written
