@@ -9,3 +9,4 @@ pub mod Counting
 pub mod ByLabel
 pub mod ByTarget
 pub mod Written
+pub mod Answered
