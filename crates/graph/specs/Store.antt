@@ -6,7 +6,7 @@ use Prim.Native.Nat.{ℕ, zero, suc, _+_, _-_, _*_, _/_, _%_}
 use lib.Dec.{eqb, ltb}
 use lib.ListN.{length, getD, take, drop}
 use Rattle.lists.specs.Lists.{range, all, count, same, ascending, sort}
-use Rattle.lists.specs.Refusal.{refuse, first, answered}
+use Rattle.lists.specs.Refusal.{refuse, first}
 use Rattle.graph.specs.Graph.{Edge, Graph, Direction, forward, backward, near, key}
 use Rattle.graph.specs.File.{graphOf, graphFault, badEdge}
 
@@ -39,20 +39,6 @@ sideAt backward n m = 3 + 2 * n + m
 -- Load: the graph file's refusals, then '5 store too small'.
 unfoldable pub loadFault : List ℕ → ℕ → ℕ
 loadFault s room = first (graphFault s ∷ refuse 5 (ltb room (storeSize (graphOf s))) ∷ [])
-
--- What Load answers: 'N and M', or its refusal 'with every other number 0'.
-pub record LoadAnswer : Type 0 where
-  pub refusal : ℕ
-  pub vertices : ℕ
-  pub edges : ℕ
-
-unfoldable pub loadAnswer : List ℕ → ℕ → LoadAnswer
-loadAnswer s room =
-    record {
-      refusal = loadFault s room;
-      vertices = answered (loadFault s room) (graphOf s .vertices);
-      edges = answered (loadFault s room) (length (graphOf s .edges));
-    }
 
 -- The store after Load: the defined words followed by its old words; 'refused, the store is untouched'.
 unfoldable pub loadStore : List ℕ → List ℕ → List ℕ

@@ -1,1 +1,38 @@
-// Load.
+// Load: the graph file's faults, and the store of sorted labelled neighbour lists that an accepted file is loaded to.
+ghost use mathlib.Core.Path.{_≡_};
+ghost use lib.ListN.{length};
+ghost use Rattle.graph.specs.Store.{loadStore};
+ghost use Rattle.load.specs.Answer.{loadAnswer};
+
+mod file;
+mod fill;
+
+// What Load answers: a refusal with zeros, or 0 with N and M.
+pub struct Loaded {
+    pub refusal: u32,
+    pub vertices: usize,
+    pub edges: usize,
+}
+
+// The refusal of a file or of a store that is too small, with the store untouched; or the counts, with the graph in the store.
+pub fn load(file: &[u8], store: &mut [u32]) -> Loaded
+    ensures answer { λ r. ⌜ r ≡ loadAnswer (now (file .entry)) (length (now (store .entry))) ⌝ }
+    ensures words { λ _. ⌜ now (store .exit) ≡ loadStore (now (file .entry)) (now (store .entry)) ⌝ }
+{
+    let refusal = file::load_fault(file, store.len());
+    if refusal != 0 {
+        return Loaded {
+            refusal,
+            vertices: 0,
+            edges: 0,
+        };
+    }
+    let n = file::vertex_count(file);
+    let m = file::edge_count(file);
+    fill::fill(file, n, m, store);
+    Loaded {
+        refusal: 0,
+        vertices: n,
+        edges: m,
+    }
+}

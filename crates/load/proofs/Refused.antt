@@ -1,0 +1,141 @@
+-- The faults of a graph file, part by part. Assumes nothing.
+use mathlib.Core.Path.{_≡_, refl, sym, _∙_, ap}
+use mathlib.Core.Logic.{_⊎_, inl, inr}
+use mathlib.Core.Bool.{Bool, true, false, cond, not}
+use mathlib.Core.List.{List, [], _∷_, _++_, map, map-append}
+use Prim.Native.Nat.{ℕ, zero, suc, _+_, _≤_, _<_}
+use native.Mathlib.Nat.{eq-or-lt-of-le, le-of-suc-le-suc}
+use native.Mathlib.Numerals.{add-one}
+use native.Mathlib.Omega.{arith}
+use lib.Dec.{eqb, ltb}
+use lib.ListN.{length, length-map}
+use borrow.Author.Tests.{ltb-true, lt-ltb, le-ltb, ltb-false, eq-eqb, ne-eqb}
+use Rattle.lists.specs.Lists.{range}
+use Rattle.lists.specs.Refusal.{refuse, first}
+use Rattle.lists.proofs.Tests.{iff, not-true}
+use Rattle.lists.proofs.All.{length-range}
+use Rattle.lists.proofs.Faults.{first-append, first-head, first-tail, refuse-zero}
+use Rattle.packed.proofs.Laws.{field-lt}
+use Rattle.graph.specs.Graph.{forward, key}
+use Rattle.graph.specs.File.{graphOf, graphFault, edgeIn, edgeFault, edgeCount, vertexCount, fileSize, badEdge, ascends}
+use Rattle.graph.specs.Store.{usedWords, storeSize, loadFault}
+use Rattle.graph.proofs.Loads.{load-fits}
+use Rattle.load.specs.Reading.{Whole, edgeWith, faultFrom, lengthFault, edgesFault}
+
+-- A fault in front is the refusal.
+pub first-left : (js ks : List ℕ) → (first js ≡ 0 → ⊥) → first (js ++ ks) ≡ first js
+unfolding first
+first-left [] ks h = absurd (h refl)
+first-left (j ∷ js) ks h = go (eqb j 0) (first-left js ks) h
+  where
+    go : (b : Bool) → ((first js ≡ 0 → ⊥) → first (js ++ ks) ≡ first js) → (cond b (first js) j ≡ 0 → ⊥)
+        → cond b (first (js ++ ks)) j ≡ cond b (first js) j
+    go true f k = f k
+    go false f k = refl
+
+-- Of a fault for each number below n, the first that is not 0.
+pub first-found : (f : ℕ → ℕ) (n i : ℕ) → i < n → first (map f (range i)) ≡ 0 → (f i ≡ 0 → ⊥) → first (map f (range n)) ≡ f i
+unfolding range first
+first-found f zero i h e k = absurd (omega arith)
+first-found f (suc n) i h e k = ap first (map-append f (range n) (n ∷ [])) ∙ go (first-found f n i) (eq-or-lt-of-le (le-of-suc-le-suc h))
+  where
+    go : (i < n → first (map f (range i)) ≡ 0 → (f i ≡ 0 → ⊥) → first (map f (range n)) ≡ f i) → (i ≡ n) ⊎ (i < n)
+        → first (map f (range n) ++ (f n ∷ [])) ≡ f i
+    go g (inl j) = rw (← j) (first-append (map f (range i)) (f i ∷ []) e ∙ rw (ne-eqb (f i) 0 k))
+    go g (inr l) = first-left (map f (range n)) (f n ∷ []) (λ z. k (sym (g l e k) ∙ z)) ∙ g l e k
+
+-- A fault of the length or of the fill bits comes before those of edges.
+pub graph-length : (s : List ℕ) → (lengthFault s ≡ 0 → ⊥) → graphFault s ≡ lengthFault s
+unfolding graphFault lengthFault
+graph-length s h = first-left _ (map (edgeFault s) (range (edgeCount s))) h
+
+pub graph-edges : (s : List ℕ) → lengthFault s ≡ 0 → graphFault s ≡ edgesFault s
+unfolding graphFault lengthFault edgesFault
+graph-edges s e = first-append _ (map (edgeFault s) (range (edgeCount s))) e
+
+-- A file with no fault of its length is not shorter than its own size.
+pub length-there : (s : List ℕ) → lengthFault s ≡ 0 → fileSize s ≤ length s
+unfolding lengthFault
+length-there s e = ltb-false (length s) (fileSize s) (refuse-zero 0 _ (first-head _ _ (first-tail _ _ e)))
+
+pub file-whole : (s : List ℕ) {n : ℕ} → n ≡ vertexCount s → fileSize s ≤ length s → Whole s n
+file-whole s e h = record { vertices = e; there = h; few-vertices = rw e (field-lt s 0 16); few-edges = field-lt s 16 20 }
+
+-- One more than the key of the edge before, 0 where there is none.
+unfoldable pub leastKey : List ℕ → ℕ → ℕ
+leastKey s zero = 0
+leastKey s (suc i) = suc (key forward (edgeIn s i))
+
+-- An edge ascends where its key is not below that.
+rises : (s : List ℕ) (i : ℕ) → not (ascends s i) ≡ ltb (key forward (edgeIn s i)) (leastKey s i)
+unfolding leastKey
+rises s zero = sym (le-ltb (key forward (edgeIn s 0)) 0 (omega arith))
+rises s (suc i) =
+    let a : ℕ = key forward (edgeIn s i) in
+    let b : ℕ = key forward (edgeIn s (suc i)) in
+    iff (not (ltb a b)) (ltb b (suc a))
+    (λ h. let l : b ≤ a = ltb-false a b (not-true (ltb a b) h) in lt-ltb b (suc a) (omega arith))
+    (λ h. let l : b < suc a = ltb-true b (suc a) h in ap not (le-ltb a b (omega arith)))
+
+pub edge-from : (s : List ℕ) (i : ℕ) → edgeFault s i ≡ faultFrom (vertexCount s) (leastKey s i) (edgeIn s i)
+edge-from s i =
+    ap (λ (b : Bool). first (refuse 3 (badEdge (vertexCount s) (edgeIn s i)) ∷ refuse 4 b ∷ [])) (rises s i)
+
+-- The edges before i are not at fault, and the next key is to be at least `least`.
+pub record Faultless (s : List ℕ) (least i : ℕ) : Type 0 where
+  pub key-before : least ≡ leastKey s i
+  pub none : first (map (edgeFault s) (range i)) ≡ 0
+
+pub faultless-start : (s : List ℕ) → Faultless s 0 0
+unfolding leastKey range first
+faultless-start s = record { key-before = refl; none = refl }
+
+-- The fields and the fault that the code has read of edge i.
+pub record Tested (s : List ℕ) (n least i a l b r : ℕ) : Type 0 where
+  pub vertices : n ≡ vertexCount s
+  pub earlier : Faultless s least i
+  pub source : a ≡ edgeIn s i .source
+  pub label : l ≡ edgeIn s i .label
+  pub target : b ≡ edgeIn s i .target
+  pub fault : r ≡ faultFrom n least (edgeWith a l b)
+
+module _ (s : List ℕ) {n least i a l b r : ℕ} (t : Tested s n least i a l b r) where
+  tested : r ≡ edgeFault s i
+  tested = t .fault ∙ rw (t .vertices, t .source, t .label, t .target, t .earlier .key-before) (sym (edge-from s i))
+
+  pub tested-found : i < edgeCount s → (r ≡ 0 → ⊥) → r ≡ edgesFault s
+  unfolding edgesFault
+  tested-found h k = tested ∙ sym (first-found (edgeFault s) (edgeCount s) i h (t .earlier .none) (λ z. k (tested ∙ z)))
+
+  pub tested-more : r ≡ 0 → {k : ℕ} → k ≡ key forward (edgeWith a l b) → Faultless s (k + 1) (i + 1)
+  unfolding leastKey range first
+  tested-more z e =
+      rw (add-one i)
+      (record {
+        key-before = rw (e, t .source, t .label, t .target) (add-one _);
+        none =
+            ap first (map-append (edgeFault s) (range i) (i ∷ []))
+            ∙ first-append (map (edgeFault s) (range i)) (edgeFault s i ∷ []) (t .earlier .none) ∙ rw (sym tested ∙ z);
+      })
+
+-- ---- Load
+
+pub length-edges : (s : List ℕ) → length (graphOf s .edges) ≡ edgeCount s
+unfolding graphOf
+length-edges s = length-map (range (edgeCount s)) (edgeIn s) ∙ length-range (edgeCount s)
+
+pub store-words : (s : List ℕ) → storeSize (graphOf s) ≡ usedWords (vertexCount s) (edgeCount s)
+unfolding graphOf
+store-words s = ap (usedWords (vertexCount s)) (length-edges s)
+
+-- A fault of the file comes before the store's.
+pub load-file : (s : List ℕ) (room : ℕ) → (graphFault s ≡ 0 → ⊥) → loadFault s room ≡ graphFault s
+unfolding loadFault first
+load-file s room h = rw (ne-eqb (graphFault s) 0 h)
+
+pub load-small : (s : List ℕ) (room : ℕ) → graphFault s ≡ 0 → room < usedWords (vertexCount s) (edgeCount s) → loadFault s room ≡ 5
+unfolding loadFault first
+load-small s room e h = rw (eq-eqb (graphFault s) 0 e, store-words s, lt-ltb room (usedWords (vertexCount s) (edgeCount s)) h)
+
+pub load-holds : (s : List ℕ) (room : ℕ) → graphFault s ≡ 0 → usedWords (vertexCount s) (edgeCount s) ≤ room → loadFault s room ≡ 0
+load-holds s room e h = load-fits s room e (rw (store-words s) h)

@@ -1,0 +1,176 @@
+// The graph file: N (16 bits), M (20), N labels (16), then M edges of source (16), label (8), target (16); and its faults.
+ghost use mathlib.Core.Path.{_≡_};
+ghost use Prim.Native.Nat.{_+_, _*_, _^_, _≤_, _<_};
+ghost use lib.ListN.{length};
+ghost use Rattle.packed.specs.Field.{fieldAt};
+ghost use Rattle.graph.specs.Graph.{forward, backward, entry, key};
+ghost use Rattle.graph.specs.File.{vertexCount, edgeCount, edgeStart, edgeIn, fileSize, graphFault};
+ghost use Rattle.graph.specs.Store.{loadFault};
+ghost use Rattle.load.specs.Reading.{Whole, edgeWith, faultFrom, lengthFault, edgesFault};
+use graph::Graph;
+use packed::field;
+
+pub fn vertex_count(file: &[u8]) -> usize
+    requires { ⌜ 5 ≤ length (now file) ⌝ }
+    ensures { λ r. ⌜ (r ≡ vertexCount (now (file .entry))) × (r < 65536) ⌝ }
+{
+    field(file, 0, 16) as usize
+}
+
+pub fn edge_count(file: &[u8]) -> usize
+    requires { ⌜ 5 ≤ length (now file) ⌝ }
+    ensures { λ r. ⌜ (r ≡ edgeCount (now (file .entry))) × (r < 1048576) ⌝ }
+{
+    field(file, 16, 20) as usize
+}
+
+// The bit position of edge i in a file of n vertices.
+fn edge_start(n: usize, i: usize) -> usize
+    requires { ⌜ (n < 65536) × (i < 1048576) ⌝ }
+    ensures { λ r. ⌜ r ≡ 36 + 16 * n + 40 * i ⌝ }
+{
+    36 + 16 * n + 40 * i
+}
+
+// One field of edge i: `width` bits, `offset` bits past the edge's start.
+pub fn edge_field(file: &[u8], n: usize, i: usize, offset: usize, width: usize) -> u32
+    requires { ⌜ Whole (now file) n × (i < edgeCount (now file)) × (width ≤ 20) × (offset + width ≤ 40) ⌝ }
+    ensures { λ r. ⌜ (r ≡ fieldAt (now (file .entry)) (edgeStart (now (file .entry)) i + offset) width) × (r < 2 ^ width) ⌝ }
+{
+    field(file, edge_start(n, i) + offset, width)
+}
+
+pub fn source(file: &[u8], n: usize, i: usize) -> u32
+    requires { ⌜ Whole (now file) n × (i < edgeCount (now file)) ⌝ }
+    ensures { λ r. ⌜ (r ≡ edgeIn (now (file .entry)) i .source) × (r < 65536) ⌝ }
+{
+    edge_field(file, n, i, 0, 16)
+}
+
+pub fn label(file: &[u8], n: usize, i: usize) -> u32
+    requires { ⌜ Whole (now file) n × (i < edgeCount (now file)) ⌝ }
+    ensures { λ r. ⌜ (r ≡ edgeIn (now (file .entry)) i .label) × (r < 256) ⌝ }
+{
+    edge_field(file, n, i, 16, 8)
+}
+
+pub fn target(file: &[u8], n: usize, i: usize) -> u32
+    requires { ⌜ Whole (now file) n × (i < edgeCount (now file)) ⌝ }
+    ensures { λ r. ⌜ (r ≡ edgeIn (now (file .entry)) i .target) × (r < 65536) ⌝ }
+{
+    edge_field(file, n, i, 24, 16)
+}
+
+// The entry of edge i on the forward side.
+pub fn forward_entry(file: &[u8], n: usize, i: usize) -> u32
+    requires { ⌜ Whole (now file) n × (i < edgeCount (now file)) ⌝ }
+    ensures { λ r. ⌜ r ≡ entry forward (edgeIn (now (file .entry)) i) ⌝ }
+{
+    label(file, n, i) * Graph::SPAN + target(file, n, i)
+}
+
+// The entry of edge i on the backward side.
+pub fn backward_entry(file: &[u8], n: usize, i: usize) -> u32
+    requires { ⌜ Whole (now file) n × (i < edgeCount (now file)) ⌝ }
+    ensures { λ r. ⌜ r ≡ entry backward (edgeIn (now (file .entry)) i) ⌝ }
+{
+    label(file, n, i) * Graph::SPAN + source(file, n, i)
+}
+
+// 1 where the file is shorter than 5 bytes or than its own size, 2 where it is longer or a fill bit is set, else 0.
+fn length_fault(file: &[u8]) -> u32
+    ensures { λ r. ⌜ r ≡ lengthFault (now (file .entry)) ⌝ }
+{
+    if file.len() < 5 {
+        return 1;
+    }
+    let n = vertex_count(file);
+    let m = edge_count(file);
+    let size = 5 + 2 * n + 5 * m;
+    if file.len() < size {
+        return 1;
+    }
+    if size < file.len() {
+        return 2;
+    }
+    if packed::fill_set(file, edge_start(n, m)) {
+        return 2;
+    }
+    0
+}
+
+// (source, label, target) as one number.
+fn edge_key(s: u32, l: u32, t: u32) -> u64
+    ensures { λ r. ⌜ r ≡ key forward (edgeWith s l t) ⌝ }
+{
+    s as u64 * 16777216 + (l as u64 * 65536 + t as u64)
+}
+
+// 3 where an edge has a vertex not below n or label 0, 4 where its key is below the least that ascends, else 0.
+fn edge_fault(s: u32, l: u32, t: u32, n: usize, least: u64) -> u32
+    ensures { λ r. ⌜ r ≡ faultFrom n least (edgeWith s l t) ⌝ }
+{
+    if n <= s as usize {
+        return 3;
+    }
+    if n <= t as usize {
+        return 3;
+    }
+    if l == 0 {
+        return 3;
+    }
+    if edge_key(s, l, t) < least {
+        return 4;
+    }
+    0
+}
+
+// 3 or 4 of the first edge at fault, else 0. `least` is one more than the key of the edge before.
+fn edges_fault(file: &[u8], n: usize, m: usize) -> u32
+    requires { ⌜ Whole (now file) n × (m ≡ edgeCount (now file)) ⌝ }
+    ensures { λ r. ⌜ r ≡ edgesFault (now (file .entry)) ⌝ }
+{
+    let mut least = 0;
+    let mut i = 0;
+    while i < m {
+        let s = source(file, n, i);
+        let l = label(file, n, i);
+        let t = target(file, n, i);
+        let fault = edge_fault(s, l, t, n, least);
+        if fault != 0 {
+            return fault;
+        }
+        least = edge_key(s, l, t) + 1;
+        i += 1;
+    }
+    0
+}
+
+// The first fault of a graph file, or 0.
+fn graph_fault(file: &[u8]) -> u32
+    ensures { λ r. ⌜ r ≡ graphFault (now (file .entry)) ⌝ }
+{
+    let fault = length_fault(file);
+    if fault != 0 {
+        return fault;
+    }
+    edges_fault(file, vertex_count(file), edge_count(file))
+}
+
+// Load's refusal for a store of so many words, or 0.
+pub fn load_fault(file: &[u8], room: usize) -> u32
+    ensures { λ r. ⌜ r ≡ loadFault (now (file .entry)) room ⌝ }
+{
+    let fault = graph_fault(file);
+    if fault != 0 {
+        return fault;
+    }
+    let g = Graph {
+        vertices: vertex_count(file),
+        edges: edge_count(file),
+    };
+    if room < g.words() {
+        return 5;
+    }
+    0
+}
