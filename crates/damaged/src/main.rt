@@ -80,6 +80,63 @@ fn print(name: &[u8], counts: &[u64; 32]) {
     io::write_all(STDOUT_FILENO, b"\n");
 }
 
+// Puts 7 into every word of a store.
+fn mark(store: &mut [u32]) {
+    let mut i = 0;
+    while i < store.len() {
+        store[i] = 7;
+        i += 1;
+    }
+}
+
+// How many words of a marked store are no longer 7.
+fn touched(store: &[u32]) -> u64 {
+    let mut n = 0;
+    let mut i = 0;
+    while i < store.len() {
+        if store[i] != 7 {
+            n = std::num::wrapping_add_u64(n, 1);
+        }
+        i += 1;
+    }
+    n
+}
+
+// Load of a file to a marked store; counts its refusal, and answers how many words it touched though it refused.
+fn load_marked(file: &[u8], store: &mut [u32], counts: &mut [u64; 32]) -> u64 {
+    mark(store);
+    let loaded = load::load(file, store);
+    tally(counts, loaded.refusal);
+    if loaded.refusal == 0 {
+        return 0;
+    }
+    touched(store)
+}
+
+// Load of the file's first n bytes, for each n.
+fn short_graphs(file: &[u8], store: &mut [u32], counts: &mut [u64; 32]) -> u64 {
+    let mut words = 0;
+    let mut n = 0;
+    while n < file.len() {
+        words = std::num::wrapping_add_u64(words, load_marked(&file[..n], store, counts));
+        n += 1;
+    }
+    words
+}
+
+// Load of the file with one bit damaged, for each of so many bits.
+fn damaged_graphs(file: &mut [u8], bits: usize, store: &mut [u32], counts: &mut [u64; 32]) -> u64 {
+    let mut words = 0;
+    let mut bit = 0;
+    while bit < bits {
+        flip(file, bit);
+        words = std::num::wrapping_add_u64(words, load_marked(file, store, counts));
+        flip(file, bit);
+        bit += 1;
+    }
+    words
+}
+
 // Read query on the file's first n bytes, for each n.
 fn short_queries(file: &[u8], counts: &mut [u64; 32]) {
     let mut n = 0;
@@ -121,6 +178,15 @@ fn damaged_plans(query: &[u8], file: &mut [u8], bits: usize, counts: &mut [u64; 
 }
 
 fn main() {
+    let mut g = G;
+    let mut store = [0u32; 26];
+    let mut graphs = [0u64; 32];
+    let short = short_graphs(&g, &mut store, &mut graphs);
+    let damaged = damaged_graphs(&mut g, 304, &mut store, &mut graphs);
+    print(b"load", &graphs);
+    io::write_all(STDOUT_FILENO, b"touched ");
+    io::print_decimal(STDOUT_FILENO, std::num::wrapping_add_u64(short, damaged));
+    io::write_all(STDOUT_FILENO, b"\n");
     let mut q = Q;
     let mut queries = [0u64; 32];
     short_queries(&q, &mut queries);
