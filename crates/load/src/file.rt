@@ -4,7 +4,7 @@ ghost use Prim.Native.Nat.{_+_, _*_, _^_, _≤_, _<_};
 ghost use lib.ListN.{length};
 ghost use Rattle.packed.specs.Field.{fieldAt};
 ghost use Rattle.graph.specs.Graph.{forward, backward, entry, key};
-ghost use Rattle.graph.specs.File.{vertexCount, edgeCount, edgeStart, edgeIn, fileSize, graphFault};
+ghost use Rattle.graph.specs.File.{vertexCount, edgeCount, edgeStart, edgeIn, graphFault};
 ghost use Rattle.graph.specs.Store.{loadFault};
 ghost use Rattle.load.specs.Reading.{Whole, edgeWith, faultFrom, lengthFault, edgesFault};
 use graph::Graph;
