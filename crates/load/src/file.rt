@@ -24,6 +24,14 @@ pub fn edge_count(file: &[u8]) -> usize
     field(file, 16, 20) as usize
 }
 
+// The label of vertex v.
+pub fn vertex_label(file: &[u8], n: usize, v: usize) -> u32
+    requires { ⌜ Whole (now file) n × (v < n) ⌝ }
+    ensures { λ r. ⌜ r ≡ fieldAt (now (file .entry)) (36 + 16 * v) 16 ⌝ }
+{
+    field(file, 36 + 16 * v, 16)
+}
+
 // The bit position of edge i in a file of n vertices.
 fn edge_start(n: usize, i: usize) -> usize
     requires { ⌜ (n < 65536) × (i < 1048576) ⌝ }
