@@ -16,6 +16,8 @@ impl Graph {
     pub const MAX_VERTICES: usize = 65535;
 
     pub const MAX_EDGES: usize = 1048575;
+    // Edge labels are 1 to this.
+    pub const MAX_LABEL: usize = 255;
     // The position of the labels.
     pub const LABELS: usize = 2;
     // An entry is label × SPAN + neighbour.

@@ -4,7 +4,7 @@ ghost use Prim.Native.Nat.{_+_, _*_, _^_, _≤_, _<_};
 ghost use lib.ListN.{length};
 ghost use Rattle.packed.specs.Field.{fieldAt};
 ghost use Rattle.graph.specs.Graph.{forward, backward, entry, key};
-ghost use Rattle.graph.specs.File.{vertexCount, edgeCount, edgeStart, edgeIn, fileSize, graphFault};
+ghost use Rattle.graph.specs.File.{vertexCount, edgeCount, edgeStart, edgeIn, graphFault};
 ghost use Rattle.graph.specs.Store.{loadFault};
 ghost use Rattle.load.specs.Reading.{Whole, edgeWith, faultFrom, lengthFault, edgesFault};
 use graph::Graph;
@@ -22,6 +22,14 @@ pub fn edge_count(file: &[u8]) -> usize
     ensures { λ r. ⌜ (r ≡ edgeCount (now (file .entry))) × (r < 1048576) ⌝ }
 {
     field(file, 16, 20) as usize
+}
+
+// The label of vertex v.
+pub fn vertex_label(file: &[u8], n: usize, v: usize) -> u32
+    requires { ⌜ Whole (now file) n × (v < n) ⌝ }
+    ensures { λ r. ⌜ r ≡ fieldAt (now (file .entry)) (36 + 16 * v) 16 ⌝ }
+{
+    field(file, 36 + 16 * v, 16)
 }
 
 // The bit position of edge i in a file of n vertices.

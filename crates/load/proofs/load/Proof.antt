@@ -1,5 +1,5 @@
 -- `load::load` meets its contract: the answer and every word of the store, refused and accepted. Assumes nothing.
-use mathlib.Core.Path.{_≡_, sym, _∙_}
+use mathlib.Core.Path.{sym, _∙_}
 use native.Mathlib.Omega.{arith}
 use borrow.Author.Needs.{needs}
 use Rattle.load.proofs.Answered.{

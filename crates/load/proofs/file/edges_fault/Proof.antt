@@ -1,12 +1,12 @@
 -- `load::file::edges_fault` meets its contract. The loop's invariant: no edge before i is at fault, and `least` is one more than
 -- the key of the edge before i. Assumes nothing.
-use mathlib.Core.Path.{_≡_, sym, _∙_, ap}
-use Prim.Native.Nat.{ℕ, _≤_, _-_}
+use mathlib.Core.Path.{_≡_, sym}
+use Prim.Native.Nat.{_≤_, _-_}
 use native.Mathlib.Omega.{arith}
 use borrow.Author.Needs.{needs}
 use Rattle.graph.specs.File.{edgeCount}
 use Rattle.load.specs.Reading.{edgesFault}
-use Rattle.load.proofs.Refused.{Faultless, Tested, faultless-start, tested-found, tested-more}
+use Rattle.load.proofs.Refused.{Faultless, faultless-start, tested-found, tested-more}
 use Rattle.load.proofs.file.edges_fault.Statement.{statement}
 use Rattle.load.proofs.file.edges_fault.Tie as tie
 

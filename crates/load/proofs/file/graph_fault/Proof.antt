@@ -1,5 +1,5 @@
 -- `load::file::graph_fault` meets its contract: the edges' faults count where the length has none. Assumes nothing.
-use mathlib.Core.Path.{_≡_, sym, _∙_}
+use mathlib.Core.Path.{sym, _∙_}
 use native.Mathlib.Omega.{arith}
 use borrow.Author.Needs.{needs}
 use Rattle.load.proofs.Refused.{graph-length, graph-edges, length-there, file-whole}

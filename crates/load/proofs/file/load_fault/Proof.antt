@@ -1,5 +1,5 @@
 -- `load::file::load_fault` meets its contract: the store's size counts where the file has no fault. Assumes nothing.
-use mathlib.Core.Path.{_≡_, sym, _∙_}
+use mathlib.Core.Path.{sym, _∙_}
 use native.Mathlib.Omega.{arith}
 use borrow.Author.Needs.{needs}
 use Rattle.graph.proofs.FileGraph.{accepted}
