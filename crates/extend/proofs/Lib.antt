@@ -1,0 +1,5 @@
+-- Laws of extend.
+pub mod Copying
+pub mod Used
+pub mod Turns
+pub mod Bounds
