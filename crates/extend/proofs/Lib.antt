@@ -1,5 +1,7 @@
 -- Laws of extend.
+pub mod Bounds
 pub mod Copying
 pub mod Used
 pub mod Turns
-pub mod Bounds
+pub mod Rowwise
+pub mod Loop
