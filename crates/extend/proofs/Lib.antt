@@ -5,3 +5,6 @@ pub mod Used
 pub mod Turns
 pub mod Rowwise
 pub mod Loop
+pub mod Meaning
+pub mod Definition
+pub mod Handed
