@@ -7,3 +7,4 @@ pub mod Pairs
 pub mod Laid
 pub mod Turns
 pub mod Bounds
+pub mod Moved
