@@ -8,3 +8,4 @@ pub mod Laid
 pub mod Turns
 pub mod Bounds
 pub mod Moved
+pub mod Steps
