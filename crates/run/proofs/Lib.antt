@@ -7,3 +7,5 @@ pub mod Pairs
 pub mod Laid
 pub mod Turns
 pub mod Bounds
+pub mod Moved
+pub mod Steps

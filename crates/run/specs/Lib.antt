@@ -3,3 +3,4 @@ pub mod Pile
 pub mod Run
 pub mod Complete
 pub mod Scratch
+pub mod Live
