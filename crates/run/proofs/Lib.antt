@@ -9,3 +9,4 @@ pub mod Turns
 pub mod Bounds
 pub mod Moved
 pub mod Steps
+pub mod Begun
