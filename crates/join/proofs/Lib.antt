@@ -1,0 +1,2 @@
+-- Laws of the hash join.
+pub mod Keys

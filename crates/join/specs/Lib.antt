@@ -1,0 +1,2 @@
+-- The hash join: keys of rows, the table of build rows, and the rows of probe rows with their partners.
+pub mod Key
