@@ -2,3 +2,6 @@
 pub mod Widths
 pub mod Opening
 pub mod Writing
+pub mod Holding
+pub mod Laid
+pub mod Operators
