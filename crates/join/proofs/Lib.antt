@@ -1,2 +1,3 @@
 -- Laws of the hash join.
 pub mod Keys
+pub mod Chains
