@@ -1,3 +1,5 @@
 -- Laws of the hash join.
 pub mod Keys
 pub mod Chains
+pub mod Tables
+pub mod Places
