@@ -12,6 +12,7 @@ use Rattle.query.specs.Query.{Query}
 use Rattle.query.specs.File.{queryOf, queryFault}
 use Rattle.plan.specs.Plan.{Operator, scan, extend, join}
 use Rattle.plan.specs.Check.{rulesFault}
+use Rattle.plan.specs.declared.CheckedPlan.{CheckedPlan}
 
 abbrev pub operatorCount : List ℕ → ℕ
 operatorCount s = fieldAt s 0 5
@@ -70,11 +71,7 @@ unfoldable pub checkFault : List ℕ → List ℕ → ℕ
 checkFault query plan = first (queryFault query ∷ planFault (queryOf query) plan ∷ [])
 
 -- What Check plan answers: 'its operator count', or its refusal with 0.
-pub record CheckAnswer : Type 0 where
-  pub refusal : ℕ
-  pub operators : ℕ
-
-unfoldable pub checkAnswer : List ℕ → List ℕ → CheckAnswer
+unfoldable pub checkAnswer : List ℕ → List ℕ → CheckedPlan
 checkAnswer query plan =
     record {
       refusal = checkFault query plan;

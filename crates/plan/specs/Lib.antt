@@ -1,4 +1,7 @@
--- The plan: operators in postfix order, their file, and the faults for which Check plan refuses one.
+-- The plan: operators in postfix order, their file, the faults for which Check plan refuses one, and the code's structs.
 pub mod Plan
 pub mod Check
 pub mod File
+pub mod Parts
+pub mod Answer
+pub mod Pile

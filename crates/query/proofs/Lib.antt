@@ -4,3 +4,6 @@ pub mod Structs
 pub mod Masks
 pub mod Touch
 pub mod Steps
+pub mod Refusals
+pub mod FileLaws
+pub mod Limits

@@ -1,15 +1,14 @@
 -- Laws of masks: which vertices are in a union, an intersection, a difference, in one vertex's set and in that of the vertices
 -- below n; and the mask of a set is one number. Assumes nothing.
 use mathlib.Core.Path.{_≡_, refl, sym, _∙_, ap, ap₂}
-use mathlib.Core.Logic.{_⊎_, inl, inr}
 use mathlib.Core.Bool.{Bool, true, false, not, _&&_, _||_}
-use Prim.Native.Nat.{ℕ, zero, suc, _+_, _-_, _*_, _/_, _%_, _^_, _≤_, _<_}
-use native.Mathlib.Nat.{le-of-suc-le-suc, not-suc-le-zero, lt-of-lt-of-le, one-mul, mod-lt, zero-lt-suc, zero-div, div-one, div-eq-of-lt, div-self, div-add-mod'}
+use Prim.Native.Nat.{ℕ, zero, suc, _+_, _-_, _*_, _/_, _%_, _^_, _<_}
+use native.Mathlib.Nat.{lt-of-lt-of-le, one-mul, mod-lt, zero-lt-suc, div-one, div-eq-of-lt, div-self, div-add-mod'}
 use native.Mathlib.Omega.{arith}
 use lib.Dec.{eqb, ltb}
 use lib.Bits.{bitAnd, bitOr, bitXor, and-shr, or-shr, xor-shr, and-mod, or-mod, xor-mod}
 use lib.Pow.{pow-pos, pow-mono, pow-lt, pow-add, shl-exact, shl-shr, shr-shr, high, ones-lt, ones-split}
-use borrow.Author.Tests.{ltb-true, ltb-false, eqb-true, eqb-false, eq-eqb, ne-eqb, lt-ltb, le-ltb}
+use borrow.Author.Tests.{ltb-true, ltb-false, eqb-true, eqb-false, eq-eqb, ne-eqb, lt-ltb}
 use Rattle.lists.specs.Lists.{bit, range, all}
 use Rattle.lists.proofs.Tests.{clash, iff, fails, and-l, and-r, not-true, not-false}
 use Rattle.lists.proofs.All.{all-at, all-range}
@@ -147,7 +146,4 @@ mask-all k m n S h ms =
     iff (all S (range n)) (eqb m 0)
     (λ e. eq-eqb m 0 (mask-empty k m h (λ w. ms w ∙ fails (ltb w n && not (S w)) (λ b.
     clash (all-at S n e w (ltb-true w n (and-l (ltb w n) (not (S w)) b))) (not-true (S w) (and-r (ltb w n) (not (S w)) b))))))
-    (λ e. all-range S n (λ w l. present (S w) (sym (rw (lt-ltb w n l) at (ms w)) ∙ ap (λ (x : ℕ). inMask x w) (eqb-true m 0 e) ∙ in-none w)))
-  where
-    present : (b : Bool) → not b ≡ false → b ≡ true
-    present = not-false
+    (λ e. all-range S n (λ w l. not-false (S w) (sym (rw (lt-ltb w n l) at (ms w)) ∙ ap (λ (x : ℕ). inMask x w) (eqb-true m 0 e) ∙ in-none w)))

@@ -1,19 +1,19 @@
 -- Laws of reaching: the vertices that an edge joins to a set, and those that k edges in a row lead to. Assumes nothing.
 use mathlib.Core.Path.{_≡_, refl, sym, _∙_, ap, ap₂, fun-ext}
 use mathlib.Core.Bool.{Bool, true, false, cond, not, _&&_, _||_, or-assoc, or-false, and-true, and-false}
-use mathlib.Core.List.{List, [], _∷_, _++_, map}
-use Prim.Native.Nat.{ℕ, zero, suc, _+_, _≤_, _<_}
+use mathlib.Core.List.{[], _∷_}
+use Prim.Native.Nat.{ℕ, zero, suc, _+_, _^_, _<_}
 use native.Mathlib.Numerals.{add-one}
 use native.Mathlib.Omega.{arith}
 use lib.Dec.{eqb, ltb}
 use lib.Bits.{bitOr}
-use borrow.Author.Tests.{ltb-true, ltb-false, lt-ltb, le-ltb, eqb-true, eqb-false, eq-eqb}
-use Rattle.lists.specs.Lists.{range, all, any, keep}
-use Rattle.lists.proofs.Tests.{clash, iff, fails, and-l, and-r, and-both, or-intro-l, or-intro-r, or-elim, eqb-refl, eqb-sym}
-use Rattle.lists.proofs.All.{keep-append, any-none}
-use Rattle.query.specs.Query.{Query, VertexSet, among, touches, reached}
-use Rattle.query.specs.Mask.{inMask, MaskOf, only}
-use Rattle.query.proofs.Masks.{in-or}
+use borrow.Author.Tests.{ltb-true, lt-ltb, le-ltb, eqb-true, eqb-false}
+use Rattle.lists.specs.Lists.{range, any, keep}
+use Rattle.lists.proofs.Tests.{iff, and-l, eqb-sym}
+use Rattle.lists.proofs.All.{keep-append}
+use Rattle.query.specs.Query.{Query, VertexSet, among, touches, reached, connected}
+use Rattle.query.specs.Mask.{inMask, MaskOf, only, grown}
+use Rattle.query.proofs.Masks.{in-or, mask-all}
 use Rattle.query.proofs.Touch.{any-append}
 
 -- Below n + 1 is below n, or n.
@@ -30,10 +30,6 @@ below-suc t w n = go (eqb w n) refl
         (iff (ltb w (n + 1)) (ltb w n) (λ l. let h : w < n + 1 = ltb-true w (n + 1) l in lt-ltb w n (omega arith))
         (λ l. let h : w < n = ltb-true w n l in lt-ltb w (n + 1) (omega arith)))
         ∙ sym (or-false (ltb w n && t w))
-
--- S with the vertices below n that an edge joins to it.
-abbrev pub grown : Query → VertexSet → ℕ → VertexSet
-grown q S n w = S w || ltb w n && touches q w S
 
 grown-suc : (q : Query) (S : VertexSet) (n w : ℕ) → grown q S (n + 1) w ≡ (grown q S n w || eqb w n && touches q n S)
 grown-suc q S n w =
@@ -75,8 +71,13 @@ reached-within q zero w h e = let i : 0 ≡ w = eqb-true 0 w (sym (or-false (eqb
 reached-within q (suc k) w h e =
     ltb-true w (q .vertices) (and-l (ltb w (q .vertices)) _ (sym (among-keep _ (q .vertices) w) ∙ e))
 
+-- No edge: vertex 0 alone.
+pub reached-none : (q : Query) (m : ℕ) → MaskOf m (only 0) → MaskOf m (among (reached q 0))
+unfolding reached any
+reached-none q m h w = h w ∙ eqb-sym w 0 ∙ sym (or-false (eqb 0 w))
+
 -- One edge more: those that were reached, and those below n that an edge joins to them.
-pub reached-suc : (q : Query) (k w : ℕ) → 0 < q .vertices → among (reached q (k + 1)) w ≡ grown q (among (reached q k)) (q .vertices) w
+reached-suc : (q : Query) (k w : ℕ) → 0 < q .vertices → among (reached q (k + 1)) w ≡ grown q (among (reached q k)) (q .vertices) w
 unfolding reached
 reached-suc q k w h = rw (add-one k) (among-keep _ (q .vertices) w ∙ go (among (reached q k) w) refl)
   where
@@ -84,3 +85,15 @@ reached-suc q k w h = rw (add-one k) (among-keep _ (q .vertices) w ∙ go (among
         → (ltb w (q .vertices) && (b || touches q w (among (reached q k)))) ≡ (b || ltb w (q .vertices) && touches q w (among (reached q k)))
     go true e = ap (λ (b : Bool). b && true) (lt-ltb w (q .vertices) (reached-within q k w h e))
     go false e = refl
+
+pub reached-more : (q : Query) (k m r : ℕ) → 0 < q .vertices → MaskOf m (among (reached q k)) → MaskOf r (grown q (inMask m) (q .vertices))
+    → MaskOf r (among (reached q (k + 1)))
+reached-more q k m r h hm hr w =
+    hr w ∙ ap (λ (S : VertexSet). grown q S (q .vertices) w) (fun-ext hm) ∙ sym (reached-suc q k w h)
+
+-- A query is connected where, of its vertices b, none is missing in those reached, r.
+pub connected-mask : (q : Query) (b r m : ℕ) → m < 2 ^ 32 → MaskOf b (λ (w : ℕ). ltb w (q .vertices)) → MaskOf r (among (reached q (q .vertices)))
+    → MaskOf m (λ (w : ℕ). inMask b w && not (inMask r w)) → connected q ≡ eqb m 0
+unfolding connected
+connected-mask q b r m h hb hr hm =
+    mask-all 32 m (q .vertices) (among (reached q (q .vertices))) h (λ w. hm w ∙ ap₂ (λ (x y : Bool). x && not y) (hb w) (hr w))

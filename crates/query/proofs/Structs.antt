@@ -1,7 +1,7 @@
 -- Laws of a query as the code has it. Assumes nothing.
-use mathlib.Core.Path.{_≡_, refl, sym, _∙_, ap, ap₂}
-use mathlib.Core.Bool.{Bool, true, false, not, _&&_}
-use mathlib.Core.List.{List, [], _∷_, _++_, map}
+use mathlib.Core.Path.{_≡_, refl, sym, _∙_, ap}
+use mathlib.Core.Bool.{true, false, _&&_}
+use mathlib.Core.List.{List, map, map-map}
 use Prim.Native.Nat.{ℕ, _+_, _*_, _≤_, _<_}
 use native.Mathlib.Omega.{arith}
 use lib.Dec.{leb}
@@ -12,12 +12,14 @@ use Rattle.lists.proofs.Tests.{and-l, and-r, not-false}
 use Rattle.packed.specs.Field.{fieldAt}
 use Rattle.packed.proofs.Laws.{field-lt}
 use Rattle.graph.specs.Graph.{Edge}
+use Rattle.graph.proofs.Maps.{map-indices}
 use Rattle.query.specs.Query.{Query, edgeAt}
 use Rattle.query.specs.File.{minVertices, maxVertices, minEdges, maxEdges, vertexCount, edgeCount, edgeStart, edgeIn, queryOf, outsideLimits}
+use Rattle.query.specs.Parts.{labelIn, edgeField}
 use Rattle.query.specs.Answer.{padded, edgeStruct, asEdge, structOf, edgeOf, queryIn, Held}
 use Rattle.query.specs.declared.Edge.{Edge as EdgeStruct}
 use Rattle.query.specs.declared.Query.{Query as QueryStruct}
-use Rattle.query.proofs.Images.{length-image, getD-image, image-ext, image-getD, getD-padded, take-padded}
+use Rattle.query.proofs.Images.{length-image, getD-image, image-ext, getD-padded, take-padded}
 
 abbrev noEdge : Edge
 noEdge = record { source = 0; label = 0; target = 0 }
@@ -49,7 +51,7 @@ in-struct q e =
     λ k. record {
       vertices = q .vertices;
       labels = (ap (λ (n : ℕ). take n (padded maxVertices (q .labels))) (sym e) ∙ take-padded maxVertices (q .labels)) k;
-      edges = (image-ext (edgeOf (structOf q)) (edgeAt q) (length (q .edges)) (edge-of q) ∙ image-getD (q .edges) _) k;
+      edges = map-indices (edgeOf (structOf q)) (q .edges) _ (edge-of q) k;
     }
 
 -- ---- the query of a file
@@ -80,6 +82,30 @@ file-struct s = in-struct (queryOf s) (length-image (λ (w : ℕ). fieldAt s (9 
 pub file-edge : (s : List ℕ) (i : ℕ) → i < edgeCount s → edgeAt (queryOf s) i ≡ edgeIn s i
 unfolding queryOf
 file-edge s i h = getD-image (edgeIn s) (edgeCount s) i _ h
+
+-- The struct that is read field by field from a file of n vertices and m edges, where edge 0 is at a bit position.
+module _ (s : List ℕ) (n m at : ℕ) (vertices : n ≡ vertexCount s) (edges : m ≡ edgeCount s) (place : at ≡ 9 + 16 * n + 14 * 0) where
+  field-read : (o w : ℕ) (f : Edge → ℕ) → ((i : ℕ) → fieldAt s (edgeStart s i + o) w ≡ f (edgeIn s i))
+      → map (edgeField s at o w) (range m) ≡ map f (map (edgeIn s) (range (edgeCount s)))
+  field-read o w f h =
+      ap (λ (k : ℕ). map (edgeField s at o w) (range k)) edges
+      ∙ image-ext (edgeField s at o w) (λ (i : ℕ). f (edgeIn s i)) (edgeCount s) (λ i l. ap (λ (k : ℕ). fieldAt s k w) (omega arith) ∙ h i)
+      ∙ sym (map-map f (edgeIn s) (range (edgeCount s)))
+
+  pub struct-read : (ls ss ts es : List ℕ) → ls ≡ padded maxVertices (map (labelIn s) (range n))
+      → ss ≡ padded maxEdges (map (edgeField s at 0 3) (range m)) → ts ≡ padded maxEdges (map (edgeField s at 3 3) (range m))
+      → es ≡ padded maxEdges (map (edgeField s at 6 8) (range m))
+      → record { vertices = n; edges = m; labels = ls; sources = ss; targets = ts; «edge_labels» = es } ≡ structOf (queryOf s)
+  unfolding structOf queryOf
+  struct-read ls ss ts es hl hs ht he =
+      λ k. record {
+        vertices = vertices k;
+        edges = (edges ∙ sym (length-image (edgeIn s) (edgeCount s))) k;
+        labels = (hl ∙ ap (λ (j : ℕ). padded maxVertices (map (labelIn s) (range j))) vertices) k;
+        sources = (hs ∙ ap (padded maxEdges) (field-read 0 3 (λ (e : Edge). e .source) (λ i. ap (λ (j : ℕ). fieldAt s j 3) (omega arith)))) k;
+        targets = (ht ∙ ap (padded maxEdges) (field-read 3 3 (λ (e : Edge). e .target) (λ i. refl))) k;
+        «edge_labels» = (he ∙ ap (padded maxEdges) (field-read 6 8 (λ (e : Edge). e .label) (λ i. refl))) k;
+      }
 
 -- A file within the limits has a query that the code's functions take.
 pub held : (s : List ℕ) → outsideLimits s ≡ false → Held (structOf (queryOf s))

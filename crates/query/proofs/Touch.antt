@@ -1,16 +1,15 @@
 -- Laws of the edges between a vertex and a set: they are those to each vertex of the set. Assumes nothing.
 use mathlib.Core.Path.{_≡_, refl, sym, _∙_, ap, ap₂}
-use mathlib.Core.Logic.{_⊎_, inl, inr}
 use mathlib.Core.Bool.{Bool, true, false, not, _&&_, _||_, or-assoc, or-false, and-true, and-false}
 use mathlib.Core.List.{List, [], _∷_, _++_, map}
-use Prim.Native.Nat.{ℕ, zero, suc, _+_, _^_, _<_}
+use Prim.Native.Nat.{ℕ, suc, _+_, _^_, _<_}
 use native.Mathlib.Numerals.{add-one}
 use native.Mathlib.Nat.{lt-of-le-of-lt}
 use lib.Dec.{eqb}
 use lib.Bits.{bitAnd, bitOr, and-le-l}
 use borrow.Author.Tests.{eqb-true, eq-eqb, ne-eqb}
 use Rattle.lists.specs.Lists.{range, any}
-use Rattle.lists.proofs.Tests.{clash, iff, fails, and-l, and-r, and-both, or-intro-l, or-intro-r, or-elim, eqb-refl, eqb-sym}
+use Rattle.lists.proofs.Tests.{clash, fails, and-l, and-r, and-both, or-intro-l, or-intro-r, or-elim, eqb-refl, eqb-sym}
 use Rattle.graph.specs.Graph.{Edge}
 use Rattle.query.specs.Query.{Query, VertexSet, between, touches}
 use Rattle.query.specs.Mask.{inMask, MaskOf, only, neighbours}

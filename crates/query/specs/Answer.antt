@@ -7,7 +7,7 @@ use lib.ListN.{length, getD, take, replicate}
 use Rattle.lists.specs.Lists.{range}
 use Rattle.graph.specs.Graph.{Edge}
 use Rattle.query.specs.Query.{Query}
-use Rattle.query.specs.File.{minVertices, maxVertices, minEdges, maxEdges, queryOf, queryFault}
+use Rattle.query.specs.File.{maxVertices, maxEdges, queryOf, queryFault}
 use Rattle.query.specs.declared.Edge.{Edge as EdgeStruct}
 use Rattle.query.specs.declared.Query.{Query as QueryStruct}
 use Rattle.query.specs.declared.ReadQuery.{ReadQuery}

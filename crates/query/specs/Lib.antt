@@ -2,4 +2,5 @@
 pub mod Query
 pub mod File
 pub mod Mask
+pub mod Parts
 pub mod Answer

@@ -1,7 +1,8 @@
 -- Sets of query vertices as the code has them: numbers whose bits are the vertices. Assumes nothing.
 use mathlib.Core.Path.{_≡_}
+use mathlib.Core.Bool.{_&&_, _||_}
 use Prim.Native.Nat.{ℕ, _/_, _%_, _^_}
-use lib.Dec.{eqb}
+use lib.Dec.{eqb, ltb}
 use Rattle.query.specs.Query.{Query, VertexSet, touches}
 
 -- The set of a mask: w is in it where the bit of 2 ^ w is 1.
@@ -19,3 +20,7 @@ only v w = eqb w v
 -- The vertices that a query edge joins to v, in either direction.
 abbrev pub neighbours : Query → ℕ → VertexSet
 neighbours q v w = touches q v (only w)
+
+-- S with the vertices below n that a query edge joins to it.
+abbrev pub grown : Query → VertexSet → ℕ → VertexSet
+grown q S n w = S w || ltb w n && touches q w S

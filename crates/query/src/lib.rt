@@ -1,12 +1,16 @@
 // The query: a small labelled graph whose vertices are to be matched. `specs/` says what a query file holds and when it is
 // refused, `proofs/` has the laws.
 ghost use mathlib.Core.Path.{_≡_};
+ghost use mathlib.Core.Bool.{not};
 ghost use Prim.Native.Nat.{ℕ, _≤_, _<_};
-ghost use Rattle.query.specs.Query.{edgeAt, between};
-ghost use Rattle.query.specs.File.{maxEdges};
-ghost use Rattle.query.specs.Answer.{edgeStruct, asEdge, structOf, queryIn, Held, noQuery};
-ghost use Rattle.query.specs.Mask.{MaskOf, only, neighbours};
+ghost use Rattle.lists.specs.Refusal.{refuse};
+ghost use Rattle.query.specs.Query.{edgeAt, among, between, reached, connected};
+ghost use Rattle.query.specs.File.{maxEdges, queryOf, queryFault};
+ghost use Rattle.query.specs.Parts.{Readable};
+ghost use Rattle.query.specs.Answer.{edgeStruct, asEdge, structOf, queryIn, Held, noQuery, readAnswer};
+ghost use Rattle.query.specs.Mask.{inMask, MaskOf, only, neighbours, grown};
 
+mod file;
 pub mod set;
 
 pub struct Edge {
@@ -54,6 +58,28 @@ impl Query {
         }
     }
 
+    // The query that a file holds.
+    pub fn of_file(file: &[u8]) -> Self
+        requires { ⌜ Readable (now file) ⌝ }
+        ensures { λ r. ⌜ r ≡ structOf (queryOf (now (file .entry))) ⌝ }
+    {
+        let n = file::vertex_count(file);
+        let m = file::edge_count(file);
+        let at = file::edge_start(n, 0);
+        let labels = file::labels(file, n);
+        let sources = file::edge_fields(file, at, m, 0, 3);
+        let targets = file::edge_fields(file, at, m, 3, 3);
+        let edge_labels = file::edge_fields(file, at, m, 6, 8);
+        Query {
+            vertices: n,
+            edges: m,
+            labels,
+            sources,
+            targets,
+            edge_labels,
+        }
+    }
+
     // The edge of an index below m.
     pub fn edge(self, i: usize) -> Edge
         requires { ⌜ (i < self .edges) × (self .edges ≤ maxEdges) ⌝ }
@@ -79,6 +105,49 @@ impl Query {
         }
         found
     }
+
+    // The vertices of a set with those that an edge joins to it: one step of reaching.
+    fn reach(self, set: u32) -> u32
+        requires { ⌜ Held self ⌝ }
+        ensures { λ r. ⌜ MaskOf r (grown (queryIn self) (inMask set) (self .vertices)) ⌝ }
+    {
+        let mut next = set;
+        let mut w = 0;
+        while w < self.vertices {
+            if self.adjacent(w) & set == 0 {
+                w += 1;
+            } else {
+                next = next | set::only(w);
+                w += 1;
+            }
+        }
+        next
+    }
+
+    // The vertices that n steps lead to from vertex 0.
+    fn reached(self) -> u32
+        requires { ⌜ Held self ⌝ }
+        ensures { λ r. ⌜ MaskOf r (among (reached (queryIn self) (self .vertices))) ⌝ }
+    {
+        let mut seen = set::only(0);
+        let mut k = 0;
+        while k < self.vertices {
+            seen = self.reach(seen);
+            k += 1;
+        }
+        seen
+    }
+
+    // 11 where the query is not connected, else 0.
+    fn connected_fault(self) -> u32
+        requires { ⌜ Held self ⌝ }
+        ensures { λ r. ⌜ r ≡ refuse 11 (not (connected (queryIn self))) ⌝ }
+    {
+        if set::minus(set::below(self.vertices), self.reached()) != 0 {
+            return 11;
+        }
+        0
+    }
 }
 
 // The set of the edge's other end, where v is one of its ends; else the empty set.
@@ -93,4 +162,32 @@ fn other_end(e: Edge, v: usize) -> u32
         return set::only(e.source);
     }
     0
+}
+
+// Read query's refusal: 6, 8, 6, 7, then by edge 9, 10, then 11; or 0.
+pub fn query_fault(file: &[u8]) -> u32
+    ensures { λ r. ⌜ r ≡ queryFault (now (file .entry)) ⌝ }
+{
+    let fault = file::file_fault(file);
+    if fault != 0 {
+        return fault;
+    }
+    Query::of_file(file).connected_fault()
+}
+
+// Read query.
+pub fn read_query(file: &[u8]) -> ReadQuery
+    ensures { λ r. ⌜ r ≡ readAnswer (now (file .entry)) ⌝ }
+{
+    let refusal = query_fault(file);
+    if refusal != 0 {
+        return ReadQuery {
+            refusal,
+            query: Query::none(),
+        };
+    }
+    ReadQuery {
+        refusal: 0,
+        query: Query::of_file(file),
+    }
 }

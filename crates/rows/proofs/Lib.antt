@@ -1,7 +1,8 @@
 -- Laws of rows in the code.
+pub mod Lists
 pub mod Widths
 pub mod Opening
 pub mod Writing
-pub mod Holding
 pub mod Laid
+pub mod Holding
 pub mod Operators

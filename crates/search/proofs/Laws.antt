@@ -1,15 +1,20 @@
 -- Laws of `firstFrom`, the first index from `from` on whose word is not below x, in an ascending list. Assumes nothing.
-use mathlib.Core.Path.{_≡_, refl, sym, _∙_, ap}
-use mathlib.Core.Bool.{Bool, true, false}
+use mathlib.Core.Path.{_≡_, refl, sym, _∙_, ap, ap₂}
+use mathlib.Core.Bool.{Bool, true, false, _&&_}
 use mathlib.Core.List.{List}
 use Prim.Native.Nat.{ℕ, _+_, _-_, _≤_, _<_, zero-le}
-use native.Mathlib.Nat.{add-sub-of-le, zero-add}
+use native.Mathlib.Nat.{add-sub-of-le, add-sub-cancel-left, zero-add}
 use native.Mathlib.Omega.{arith}
+use lib.Dec.{eqb, leb, ltb}
 use lib.ListN.{length, getD, take, drop, length-drop}
-use lib.Seq.{getD-take, getD-drop, length-take-le}
-use Rattle.lists.specs.Lists.{ascending}
+use lib.Seq.{getD-take, getD-drop, drop-drop, length-take-le}
+use borrow.Author.Tests.{ltb-true, lt-ltb, eqb-true, eq-eqb}
+use Rattle.lists.specs.Lists.{any, keep, ascending}
+use Rattle.lists.proofs.Tests.{iff, fails, and-l, and-r, and-both}
+use Rattle.lists.proofs.All.{keep-keep}
 use Rattle.search.specs.Search.{below, firstFrom}
-use Rattle.search.proofs.Below.{ascending-drop, ascending-part, below-le, below-past, below-upto}
+use Rattle.search.proofs.Ascending.{ascending-drop, ascending-part}
+use Rattle.search.proofs.Below.{below-le, below-past, below-upto, take-below, drop-below, any-below}
 
 -- It is an index from `from` on, or the length.
 pub first-from : (s : List ℕ) (from x : ℕ) → from ≤ firstFrom s from x
@@ -20,24 +25,34 @@ pub first-length : (s : List ℕ) (from x : ℕ) → from ≤ length s → first
 unfolding firstFrom
 first-length s from x h = omega (arith, below-le x (drop from s), length-drop from s)
 
--- From the start of a part on.
-pub first-drop : (s : List ℕ) (from x : ℕ) → from + firstFrom (drop from s) 0 x ≡ firstFrom s from x
+pub first-within : (s : List ℕ) (from x : ℕ) {r : ℕ} → r ≡ firstFrom s from x → from ≤ length s → (from ≤ r) × (r ≤ length s)
+first-within s from x e h = omega (arith, first-from s from x, first-length s from x h)
+
+-- In the rest of the list it is the same.
+pub first-rest : (s : List ℕ) (from x : ℕ) → from + firstFrom (drop from s) 0 x ≡ firstFrom s from x
 unfolding firstFrom
-first-drop s from x = ap (λ (n : ℕ). from + n) (zero-add (below x (drop from s)))
+first-rest s from x = ap (λ (n : ℕ). from + n) (zero-add (below x (drop from s)))
+
+-- Words and tests, counted from `from`.
+getD-from : (s : List ℕ) (from i : ℕ) → from ≤ i → getD (drop from s) (i - from) 0 ≡ getD s i 0
+getD-from s from i h = rw getD-drop (ap (λ (k : ℕ). getD s k 0) (add-sub-of-le h))
+
+ltb-shift : (k m n : ℕ) → k ≤ n → ltb m (n - k) ≡ ltb (k + m) n
+ltb-shift k m n h =
+    iff (ltb m (n - k)) (ltb (k + m) n)
+    (λ e. lt-ltb (k + m) n (omega (arith, ltb-true m (n - k) e))) (λ e. lt-ltb m (n - k) (omega (arith, ltb-true (k + m) n e)))
 
 module _ (s : List ℕ) (up : ascending s ≡ true) where
   -- A word below x is before it, and a word that is not below x is not.
   pub below-first : (from x i : ℕ) → from ≤ i → i < length s → getD s i 0 < x → i < firstFrom s from x
   unfolding firstFrom
   below-first from x i h l p =
-      let at : getD (drop from s) (i - from) 0 ≡ getD s i 0 = rw getD-drop (ap (λ (k : ℕ). getD s k 0) (add-sub-of-le h)) in
-      omega (arith, below-past x (drop from s) (i - from) (ascending-drop from s up) (omega (arith, length-drop from s)) (omega arith))
+      omega (arith, below-past x (drop from s) (i - from) (ascending-drop from s up) (omega (arith, length-drop from s)) (rw getD-from p))
 
   pub above-first : (from x i : ℕ) → from ≤ i → i < length s → x ≤ getD s i 0 → firstFrom s from x ≤ i
   unfolding firstFrom
   above-first from x i h l p =
-      let at : getD (drop from s) (i - from) 0 ≡ getD s i 0 = rw getD-drop (ap (λ (k : ℕ). getD s k 0) (add-sub-of-le h)) in
-      omega (arith, below-upto x (drop from s) (i - from) (ascending-drop from s up) (omega (arith, length-drop from s)) (omega arith))
+      omega (arith, below-upto x (drop from s) (i - from) (ascending-drop from s up) (omega (arith, length-drop from s)) (rw getD-from p))
 
   -- Every word before it, from `from` on, is below x, and every word from it on is not.
   pub first-below : (from x i : ℕ) → from ≤ length s → from ≤ i → i < firstFrom s from x → getD s i 0 < x
@@ -61,11 +76,61 @@ module _ (s : List ℕ) (up : ascending s ≡ true) where
       let high : ¬ (r < firstFrom s from x) = λ q. omega (arith, after (omega arith), first-below from x r (omega arith) h q) in
       omega arith
 
-  -- From an index that it is not before, it is the same.
+  -- From an index that is not past it, it is the same.
   pub first-on : (from to x : ℕ) → from ≤ to → to ≤ firstFrom s from x → from ≤ length s → firstFrom s to x ≡ firstFrom s from x
   first-on from to x h l m =
       first-is to x (firstFrom s from x) l (first-length s from x m)
       (λ i p q. first-below from x i m (omega arith) q) (λ q. first-above from x (firstFrom s from x) (omega arith) q)
+
+  -- A search for y, not below x, ends no earlier than one for x, and may start where that one ended.
+  pub first-mono : (from x y : ℕ) → from ≤ length s → x ≤ y → firstFrom s from x ≤ firstFrom s from y
+  first-mono from x y h l =
+      let long : firstFrom s from x ≤ length s = first-length s from x h in
+      let f : ¬ (firstFrom s from y < firstFrom s from x) =
+      λ q.
+      omega (
+        arith,
+        first-below from x (firstFrom s from y) h (first-from s from y) q,
+        first-above from y (firstFrom s from y) (omega arith) (omega arith),
+      ) in
+      omega arith
+
+  pub first-move : (from x y : ℕ) → from ≤ length s → x ≤ y → firstFrom s (firstFrom s from x) y ≡ firstFrom s from y
+  first-move from x y h l = first-on from (firstFrom s from x) y (first-from s from x) (first-mono from x y h l) h
+
+  -- A word equal to x stands there, if it stands anywhere from `from` on.
+  pub first-any : (from x : ℕ) → from ≤ length s → any (eqb x) (drop from s) ≡ (ltb (firstFrom s from x) (length s) && eqb (getD s (firstFrom s from x) 0) x)
+  unfolding firstFrom
+  first-any from x h =
+      any-below x (drop from s) (ascending-drop from s up)
+      ∙ ap₂ (λ (a : Bool) (w : ℕ). a && eqb w x)
+      (ap (ltb (below x (drop from s))) (length-drop from s) ∙ ltb-shift from (below x (drop from s)) (length s) h)
+      (getD-drop from s (below x (drop from s)) 0)
+
+  pub first-found : (from x : ℕ) {r : ℕ} → r ≡ firstFrom s from x → r < length s → getD s r 0 ≡ x → any (eqb x) (drop from s) ≡ true
+  first-found from x {r} e l i =
+      let at : (ltb r (length s) && eqb (getD s r 0) x) ≡ true = and-both _ _ (lt-ltb r (length s) l) (eq-eqb (getD s r 0) x i) in
+      first-any from x (omega (arith, first-from s from x)) ∙ (rw e at at)
+
+  pub first-absent : (from x : ℕ) {r : ℕ} → r ≡ firstFrom s from x → from ≤ length s → (r < length s → getD s r 0 ≡ x → ⊥) → any (eqb x) (drop from s) ≡ false
+  first-absent from x {r} e h f =
+      fails (any (eqb x) (drop from s))
+      (λ i.
+      let at : (ltb r (length s) && eqb (getD s r 0) x) ≡ true = rw e (sym (first-any from x h) ∙ i) in
+      f (ltb-true r (length s) (and-l (ltb r (length s)) (eqb (getD s r 0) x) at)) (eqb-true (getD s r 0) x (and-r (ltb r (length s)) (eqb (getD s r 0) x) at)))
+
+  -- It cuts the words from `from` on: those below x come before it, the others from it on.
+  pub first-take : (from x : ℕ) → take (firstFrom s from x - from) (drop from s) ≡ keep (λ (w : ℕ). ltb w x) (drop from s)
+  unfolding firstFrom
+  first-take from x = rw (add-sub-cancel-left from (below x (drop from s))) (take-below x (drop from s) (ascending-drop from s up))
+
+  pub first-front : (x : ℕ) → take (firstFrom s 0 x) s ≡ keep (λ (w : ℕ). ltb w x) s
+  unfolding firstFrom
+  first-front x = rw zero-add (take-below x s up)
+
+  pub first-drop : (from x : ℕ) → drop (firstFrom s from x) s ≡ keep (λ (w : ℕ). leb x w) (drop from s)
+  unfolding firstFrom
+  first-drop from x = sym (drop-drop (below x (drop from s)) from s) ∙ drop-below x (drop from s) (ascending-drop from s up)
 
 -- In a part that does not end before it, it is the same.
 pub first-part : (s : List ℕ) → ascending s ≡ true → (from n x : ℕ) → from + n ≤ length s → firstFrom s from x ≤ from + n
@@ -82,3 +147,15 @@ first-part s up from n x h l =
   where
     word : (i : ℕ) → i < n → getD (take n (drop from s)) i 0 ≡ getD s (from + i) 0
     word i q = rw (getD-take, getD-drop)
+
+-- The words from x up to y stand between where a search for x ends and where one for y, from there on, does.
+pub first-between : (s : List ℕ) → ascending s ≡ true → (from x y : ℕ) {a b : ℕ} → a ≡ firstFrom s from x → b ≡ firstFrom s a y
+    → take (b - a) (drop a s) ≡ keep (λ (w : ℕ). leb x w && ltb w y) (drop from s)
+first-between s up from x y {a} ea eb =
+    let rest : drop a s ≡ keep (leb x) (drop from s) = rw ea (first-drop s up from x) in
+    rw eb (first-take s up a y) ∙ ap (keep (λ (w : ℕ). ltb w y)) rest ∙ keep-keep (λ (w : ℕ). ltb w y) (leb x) (drop from s)
+
+-- For x ≤ y both may be searched for from the same index.
+pub first-cut : (s : List ℕ) → ascending s ≡ true → (from x y : ℕ) → from ≤ length s → x ≤ y
+    → take (firstFrom s from y - firstFrom s from x) (drop (firstFrom s from x) s) ≡ keep (λ (w : ℕ). leb x w && ltb w y) (drop from s)
+first-cut s up from x y h l = first-between s up from x y refl (sym (first-move s up from x y h l))

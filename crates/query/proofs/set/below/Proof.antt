@@ -1,5 +1,4 @@
 -- `query::set::below` meets its contract. Assumes nothing.
-use native.Mathlib.Omega.{arith}
 use lib.Pow.{pow-pos}
 use Rattle.query.proofs.Masks.{shifted-one, in-below}
 use borrow.Author.Needs.{needs}

@@ -1,0 +1,81 @@
+-- `plan::check_fault` meets its contract: the query's faults, then the file's, then the rules'. Assumes nothing.
+use mathlib.Core.Path.{_≡_, sym, _∙_, ap, ap₂}
+use mathlib.Core.List.{[]}
+use denote.Ref.{now}
+use borrow.Author.Needs.{needs}
+use Rattle.query.specs.Query.{Query}
+use Rattle.query.specs.File.{queryOf, queryFault}
+use Rattle.query.specs.Answer.{queryIn}
+use Rattle.query.specs.declared.Query.{Query as QueryStruct}
+use Rattle.query.proofs.Structs.{file-struct, held}
+use Rattle.query.proofs.FileLaws.{query-readable}
+use Rattle.plan.specs.Check.{rulesFault}
+use Rattle.plan.specs.Parts.{ofSize, fileFault}
+use Rattle.plan.specs.Answer.{planStruct, operatorsIn}
+use Rattle.plan.proofs.Structs.{file-operators}
+use Rattle.plan.proofs.Accepted.{file-fault-size, all-named, bits-all, count-le, check-query, check-file, check-rules}
+use Rattle.plan.proofs.check_fault.Statement.{statement}
+use Rattle.plan.proofs.check_fault.Tie as tie
+
+-- Past the first test the query has no fault.
+query-clear : (c : tie.Else1) → queryFault (now (c .before .before .before .before .args .query)) ≡ 0
+query-clear c = sym (c .before .query-fault .ensures) ∙ c .if1 .left
+
+-- The faults for the query's size are those for the query; past the second test the plan's file has none.
+file-is : (c : tie.After-file-fault)
+    → let a = c .before .before .before .before .before .before .args in c .file-fault .result ≡ fileFault (queryOf (now (a .query))) (now (a .plan))
+file-is c =
+    let a = c .before .before .before .before .before .before .args in
+    c .file-fault .ensures ∙ ap (λ (d : QueryStruct). fileFault (ofSize (d .vertices) (d .edges)) (now (a .plan))) (c .before .of-file .ensures)
+    ∙ file-fault-size (queryOf (now (a .query))) (now (a .plan))
+
+file-clear : (c : tie.Else2)
+    → let a = c .before .before .before .before .before .before .before .args in fileFault (queryOf (now (a .query))) (now (a .plan)) ≡ 0
+file-clear c = sym (file-is (c .before)) ∙ c .if2 .left
+
+query-fault-requires : tie.Need-query-fault-requires
+query-fault-requires c κs = search needs
+
+returns : tie.Need-returns
+returns c = c .before .query-fault .ensures ∙ sym (check-query _ _ (rw (c .before .query-fault .ensures) at (c .if1 .taken)))
+
+of-file-requires : tie.Need-of-file-requires
+of-file-requires c κs = query-readable _ (query-clear c)
+
+file-fault-requires : tie.Need-file-fault-requires
+file-fault-requires c κs = search needs
+
+returns-2 : tie.Need-returns-2
+returns-2 c =
+    file-is (c .before) ∙ sym (check-file _ _ (query-clear (c .before .before .before)) (rw (file-is (c .before)) at (c .if2 .taken)))
+
+of-file-requires-2 : tie.Need-of-file-requires-2
+of-file-requires-2 c κs = bits-all _ _ (file-clear c)
+
+rules-fault-requires : tie.Need-rules-fault-requires
+unfolding planStruct
+rules-fault-requires c κs =
+    let n = c .before .before .before in
+    let s = now (n .before .before .before .before .before .args .query) in
+    rw (n .of-file .ensures, c .of-file2 .ensures, file-struct s, file-operators _)
+    (held s (query-readable s (query-clear (n .before)) .limits), count-le _, all-named _ _ (file-clear (c .before)))
+
+returns-3 : tie.Need-returns-3
+returns-3 c =
+    let n = c .before .before .before .before in
+    c .rules-fault .ensures
+    ∙ rw (n .of-file .ensures, c .before .of-file2 .ensures, file-struct, file-operators)
+    (sym (check-rules _ _ (query-clear (n .before)) (file-clear (c .before .before))))
+
+pub check-fault-spec : {M : Type 1} → statement M
+check-fault-spec =
+    tie.close
+    (tie.spec
+    query-fault-requires
+    returns
+    of-file-requires
+    file-fault-requires
+    returns-2
+    of-file-requires-2
+    rules-fault-requires
+    returns-3)

@@ -1,0 +1,180 @@
+// The query file: n (4 bits), m (5), n labels (16), then m edges of from (3), to (3), label (8).
+use crate::Query;
+use packed::bytes_for;
+use packed::field;
+use packed::fill_set;
+ghost use mathlib.Core.Path.{_≡_};
+ghost use mathlib.Core.List.{map};
+ghost use Prim.Native.Nat.{_+_, _*_, _^_, _≤_, _<_};
+ghost use lib.ListN.{length};
+ghost use Rattle.lists.specs.Lists.{range};
+ghost use Rattle.packed.specs.Field.{bitsIn};
+ghost use Rattle.query.specs.File.{maxVertices, maxEdges, vertexCount, edgeCount, edgeStart, key};
+ghost use Rattle.query.specs.Parts.{labelIn, edgeField, limitsFault, sizeFault, edgeFrom, keyFault, edgesFault, fileFault};
+ghost use Rattle.query.specs.Answer.{padded};
+
+pub fn vertex_count(file: &[u8]) -> usize
+    requires { ⌜ 2 ≤ length (now file) ⌝ }
+    ensures { λ r. ⌜ r ≡ vertexCount (now (file .entry)) ⌝ }
+{
+    field(file, 0, 4) as usize
+}
+
+pub fn edge_count(file: &[u8]) -> usize
+    requires { ⌜ 2 ≤ length (now file) ⌝ }
+    ensures { λ r. ⌜ r ≡ edgeCount (now (file .entry)) ⌝ }
+{
+    field(file, 4, 5) as usize
+}
+
+// The bit position of edge i in a file of n vertices.
+pub fn edge_start(n: usize, i: usize) -> usize
+    requires { ⌜ (n ≤ maxVertices) × (i ≤ maxEdges) ⌝ }
+    ensures { λ r. ⌜ r ≡ 9 + 16 * n + 14 * i ⌝ }
+{
+    9 + 16 * n + 14 * i
+}
+
+// 8 where n or m is outside its limits, else 0.
+fn limits_fault(n: usize, m: usize) -> u32
+    ensures { λ r. ⌜ r ≡ limitsFault n m ⌝ }
+{
+    if n < Query::MIN_VERTICES {
+        return 8;
+    }
+    if Query::MAX_VERTICES < n {
+        return 8;
+    }
+    if m < Query::MIN_EDGES {
+        return 8;
+    }
+    if Query::MAX_EDGES < m {
+        return 8;
+    }
+    0
+}
+
+// 6 where the file is shorter than its size in bits, 7 where it is longer or a fill bit is set, else 0.
+fn size_fault(file: &[u8], bits: usize) -> u32
+    requires { ⌜ bits + 7 < 2 ^ 64 ⌝ }
+    ensures { λ r. ⌜ r ≡ sizeFault (now (file .entry)) bits ⌝ }
+{
+    let size = bytes_for(bits);
+    if file.len() < size {
+        return 6;
+    }
+    if size < file.len() {
+        return 7;
+    }
+    if fill_set(file, bits) {
+        return 7;
+    }
+    0
+}
+
+// (from, to, label) of the edge at a bit position, as one number: the three fields are adjacent.
+fn edge_key(file: &[u8], at: usize) -> u32
+    requires { ⌜ at + 14 ≤ bitsIn (now file) ⌝ }
+    ensures { λ r. ⌜ r ≡ key (edgeFrom (now (file .entry)) at) ⌝ }
+{
+    field(file, at, 14)
+}
+
+// 9 where the edge at a bit position has a vertex not below n, equal ends or label 0; 10 where its key is below the least that
+// ascends; else 0.
+fn edge_fault(file: &[u8], at: usize, n: usize, least: u32) -> u32
+    requires { ⌜ (at + 14 ≤ bitsIn (now file)) × (at + 14 < 2 ^ 64) ⌝ }
+    ensures { λ r. ⌜ r ≡ keyFault n least (edgeFrom (now (file .entry)) at) ⌝ }
+{
+    let from = field(file, at, 3) as usize;
+    let to = field(file, at + 3, 3) as usize;
+    if n <= from {
+        return 9;
+    }
+    if n <= to {
+        return 9;
+    }
+    if from == to {
+        return 9;
+    }
+    if field(file, at + 6, 8) == 0 {
+        return 9;
+    }
+    if edge_key(file, at) < least {
+        return 10;
+    }
+    0
+}
+
+// 9 or 10 of the first edge at fault, else 0. `least` is one more than the last edge's key.
+fn edges_fault(file: &[u8], n: usize, m: usize) -> u32
+    requires { ⌜ (n ≡ vertexCount (now file)) × (n ≤ maxVertices) × (m ≤ maxEdges) × (edgeStart (now file) m ≤ bitsIn (now file)) ⌝ }
+    ensures { λ r. ⌜ r ≡ edgesFault (now (file .entry)) m ⌝ }
+{
+    let mut least = 0;
+    let mut i = 0;
+    while i < m {
+        let at = edge_start(n, i);
+        let fault = edge_fault(file, at, n, least);
+        if fault != 0 {
+            return fault;
+        }
+        least = edge_key(file, at) + 1;
+        i += 1;
+    }
+    0
+}
+
+// The first fault of a query file but 11, or 0.
+pub fn file_fault(file: &[u8]) -> u32
+    ensures { λ r. ⌜ r ≡ fileFault (now (file .entry)) ⌝ }
+{
+    if file.len() < 2 {
+        return 6;
+    }
+    let n = vertex_count(file);
+    let m = edge_count(file);
+    let limits = limits_fault(n, m);
+    if limits != 0 {
+        return limits;
+    }
+    let size = size_fault(file, edge_start(n, m));
+    if size != 0 {
+        return size;
+    }
+    edges_fault(file, n, m)
+}
+
+// The labels of the n vertices of a file; 0 past them.
+pub fn labels(file: &[u8], n: usize) -> [u32; Query::MAX_VERTICES]
+    requires { ⌜ (n ≤ maxVertices) × (9 + 16 * n ≤ bitsIn (now file)) ⌝ }
+    ensures { λ r. ⌜ r ≡ padded maxVertices (map (labelIn (now (file .entry))) (range n)) ⌝ }
+{
+    let mut a = [0u32; Query::MAX_VERTICES];
+    let mut w = 0;
+    while w < n {
+        a[w] = field(file, 9 + 16 * w, 16);
+        w += 1;
+    }
+    a
+}
+
+// One field of each of the m edges from bit position `at` on: `width` bits, `offset` bits past the edge's start; 0 past them.
+pub fn edge_fields(
+    file: &[u8],
+    at: usize,
+    m: usize,
+    offset: usize,
+    width: usize,
+) -> [u32; Query::MAX_EDGES]
+    requires { ⌜ (offset + width ≤ 14) × (m ≤ maxEdges) × (at < 2 ^ 32) × (at + 14 * m ≤ bitsIn (now file)) ⌝ }
+    ensures { λ r. ⌜ r ≡ padded maxEdges (map (edgeField (now (file .entry)) at offset width) (range m)) ⌝ }
+{
+    let mut a = [0u32; Query::MAX_EDGES];
+    let mut i = 0;
+    while i < m {
+        a[i] = field(file, at + 14 * i + offset, width);
+        i += 1;
+    }
+    a
+}

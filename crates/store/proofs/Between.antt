@@ -1,0 +1,80 @@
+-- The entries of one label in an ascending list: a search cuts the words below a number from the others, and two of them cut
+-- out what a label covers. Assumes nothing.
+use mathlib.Core.Path.{_≡_, refl, sym, _∙_, ap}
+use mathlib.Core.Bool.{true, not, _&&_}
+use mathlib.Core.List.{List, [], _∷_, _++_, map-id}
+use Prim.Native.Nat.{ℕ, _+_, _-_, _*_, _/_, _≤_, _<_, zero-le}
+use native.Mathlib.Nat.{zero-add}
+use native.Mathlib.Omega.{arith}
+use lib.Dec.{eqb, ltb}
+use lib.ListN.{length, getD, take, drop, length-drop}
+use lib.Seq.{take-at, drop-at, take-all}
+use borrow.Author.Tests.{eqb-true, eq-eqb, ltb-true, ltb-false, lt-ltb, le-ltb}
+use Rattle.lists.specs.Lists.{keep, ascending}
+use Rattle.lists.proofs.Tests.{iff, and-l, and-r, and-both, not-true}
+use Rattle.lists.proofs.All.{keep-keep, keep-ext}
+use Rattle.lists.proofs.Count.{length-keep}
+use Rattle.graph.specs.Graph.{covers}
+use Rattle.graph.proofs.Cut.{cut}
+use Rattle.search.specs.Search.{below, firstFrom}
+use Rattle.search.proofs.Laws.{first-length, below-first, above-first}
+
+pub first-fits : (s : List ℕ) (x : ℕ) {r : ℕ} → r ≡ firstFrom s 0 x → r ≤ length s
+first-fits s x e = rw e (first-length s 0 x zero-le)
+
+-- Where a search of an ascending list ends, the words below x end and the others begin.
+module _ (s : List ℕ) (up : ascending s ≡ true) (x r : ℕ) (ends : r ≡ firstFrom s 0 x) where
+  split : s ≡ keep (λ (k : ℕ). ltb k x) s ++ keep (λ (k : ℕ). not (ltb k x)) s
+  split = cut (λ (k : ℕ). k) s x (ap ascending (map-id s) ∙ up)
+
+  size : length (keep (λ (k : ℕ). ltb k x) s) ≡ r
+  unfolding firstFrom below
+  size = length-keep (λ (k : ℕ). ltb k x) s ∙ sym (zero-add (below x s)) ∙ sym ends
+
+  pub take-below : take r s ≡ keep (λ (k : ℕ). ltb k x) s
+  take-below = ap (take r) split ∙ take-at (keep (λ (k : ℕ). ltb k x) s) (keep (λ (k : ℕ). not (ltb k x)) s) r size
+
+  pub drop-below : take (length s - r) (drop r s) ≡ keep (λ (k : ℕ). not (ltb k x)) s
+  drop-below =
+      take-all (length s - r) (drop r s) (rw length-drop (omega arith))
+      ∙ ap (drop r) split ∙ drop-at (keep (λ (k : ℕ). ltb k x) s) (keep (λ (k : ℕ). not (ltb k x)) s) r size
+
+-- A label covers the entries from its first to the next label's.
+covers-span : (l k : ℕ) → (not (ltb k (l * 65536)) && ltb k (l * 65536 + 65536)) ≡ covers l (k / 65536)
+unfolding covers
+covers-span l k =
+    iff (not (ltb k (l * 65536)) && ltb k (l * 65536 + 65536)) (eqb (k / 65536) l)
+    (λ t.
+    let a : l * 65536 ≤ k = ltb-false k (l * 65536) (not-true (ltb k (l * 65536)) (and-l (not (ltb k (l * 65536))) (ltb k (l * 65536 + 65536)) t)) in
+    let b : k < l * 65536 + 65536 = ltb-true k (l * 65536 + 65536) (and-r (not (ltb k (l * 65536))) (ltb k (l * 65536 + 65536)) t) in
+    eq-eqb (k / 65536) l (omega arith))
+    (λ t.
+    let i : k / 65536 ≡ l = eqb-true (k / 65536) l t in
+    and-both (not (ltb k (l * 65536))) (ltb k (l * 65536 + 65536))
+    (ap not (le-ltb k (l * 65536) (omega arith))) (lt-ltb k (l * 65536 + 65536) (omega arith)))
+
+pub cut-covers : (l : ℕ) (s : List ℕ)
+    → keep (λ (k : ℕ). ltb k (l * 65536 + 65536)) (keep (λ (k : ℕ). not (ltb k (l * 65536))) s) ≡ keep (λ (k : ℕ). covers l (k / 65536)) s
+cut-covers l s =
+    keep-keep (λ (k : ℕ). ltb k (l * 65536 + 65536)) (λ (k : ℕ). not (ltb k (l * 65536))) s
+    ∙ keep-ext _ (λ (k : ℕ). covers l (k / 65536)) s (covers-span l)
+
+-- The whole list is covered where it is empty, and where its first word and its last one are covered.
+pub none-covered : (l : ℕ) (s : List ℕ) → length s ≡ 0 → s ≡ keep (λ (k : ℕ). covers l (k / 65536)) s
+unfolding keep
+none-covered l [] h = refl
+none-covered l (k ∷ s) h = absurd (omega arith)
+
+pub all-covered : (l : ℕ) (s : List ℕ) → ascending s ≡ true → 0 < length s
+    → l * 65536 ≤ getD s 0 0 → getD s (length s - 1) 0 < l * 65536 + 65536 → s ≡ keep (λ (k : ℕ). covers l (k / 65536)) s
+all-covered l s up h a b =
+    sym (take-all end s (omega (arith, below-first s up 0 (l * 65536 + 65536) (length s - 1) zero-le (omega arith) b)))
+    ∙ take-below s up (l * 65536 + 65536) end refl
+    ∙ ap (keep (λ (k : ℕ). ltb k (l * 65536 + 65536))) (sym (take-all (length s - 0) s (omega arith)) ∙ drop-below s up (l * 65536) 0 start)
+    ∙ cut-covers l s
+  where
+    end : ℕ
+    end = firstFrom s 0 (l * 65536 + 65536)
+
+    start : 0 ≡ firstFrom s 0 (l * 65536)
+    start = omega (arith, above-first s up 0 (l * 65536) 0 zero-le h a)
