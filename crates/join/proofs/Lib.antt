@@ -3,3 +3,5 @@ pub mod Keys
 pub mod Chains
 pub mod Tables
 pub mod Places
+pub mod Doubled
+pub mod Inserted
