@@ -5,3 +5,5 @@ pub mod Tables
 pub mod Places
 pub mod Doubled
 pub mod Inserted
+pub mod Puts
+pub mod Emitted

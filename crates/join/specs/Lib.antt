@@ -2,3 +2,4 @@
 pub mod Key
 pub mod Table
 pub mod Place
+pub mod Joined
