@@ -7,3 +7,4 @@ pub mod Doubled
 pub mod Inserted
 pub mod Puts
 pub mod Emitted
+pub mod Probed
