@@ -8,3 +8,5 @@ pub mod Inserted
 pub mod Puts
 pub mod Emitted
 pub mod Probed
+pub mod Sides
+pub mod Started

@@ -3,3 +3,4 @@ pub mod Key
 pub mod Table
 pub mod Place
 pub mod Joined
+pub mod Operands
