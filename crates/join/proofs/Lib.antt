@@ -10,3 +10,5 @@ pub mod Emitted
 pub mod Probed
 pub mod Sides
 pub mod Started
+pub mod Meaning
+pub mod Answers
