@@ -1,4 +1,5 @@
 -- Laws of rows and of matches.
 pub mod Rows
+pub mod Words
 pub mod Cuts
 pub mod Tuples
