@@ -9,3 +9,5 @@ pub mod Turns
 pub mod Bounds
 pub mod Moved
 pub mod Steps
+pub mod Sized
+pub mod Turning
