@@ -11,3 +11,4 @@ pub mod Moved
 pub mod Steps
 pub mod Sized
 pub mod Turning
+pub mod Operated
