@@ -10,3 +10,6 @@ pub mod Bounds
 pub mod Moved
 pub mod Steps
 pub mod Begun
+pub mod Sized
+pub mod Turning
+pub mod Operated
