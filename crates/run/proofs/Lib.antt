@@ -9,7 +9,6 @@ pub mod Turns
 pub mod Bounds
 pub mod Moved
 pub mod Steps
-pub mod Begun
 pub mod Sized
 pub mod Turning
 pub mod Operated
