@@ -33,12 +33,13 @@ module _ (s store : List ℕ) (e : loadFault s (length store) ≡ 0) where
   file-accepted = first-head _ _ e
 
   -- The file is whole, and its words fit the store.
-  pub whole-accepted : Whole s (vertexCount s)
-  whole-accepted = file-whole s refl (let l = accepted s file-accepted .sized in omega arith)
+  pub whole-accepted : {n : ℕ} → n ≡ vertexCount s → Whole s n
+  whole-accepted vn = file-whole s vn (let l = accepted s file-accepted .sized in omega arith)
 
-  pub room-accepted : usedWords (vertexCount s) (edgeCount s) ≤ length store
+  pub room-accepted : {n m : ℕ} → n ≡ vertexCount s → m ≡ edgeCount s → usedWords n m ≤ length store
   unfolding loadFault
-  room-accepted = rw (store-words s) at (ltb-false (length store) (storeSize (graphOf s)) (refuse-zero 4 _ (first-head _ _ (first-tail _ _ e))))
+  room-accepted vn vm =
+      rw (vn, vm, ← (store-words s)) (ltb-false (length store) (storeSize (graphOf s)) (refuse-zero 4 _ (first-head _ _ (first-tail _ _ e))))
 
   module _ {n m : ℕ} (vn : n ≡ vertexCount s) (vm : m ≡ edgeCount s) where
     pub answer-accepted : record { refusal = 0; vertices = n; edges = m } ≡ loadAnswer s (length store)

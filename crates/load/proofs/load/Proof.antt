@@ -2,6 +2,7 @@
 use mathlib.Core.Path.{sym, _∙_}
 use native.Mathlib.Omega.{arith}
 use borrow.Author.Needs.{needs}
+use Rattle.graph.proofs.FileGraph.{accepted}
 use Rattle.load.proofs.Answered.{
   answer-refused,
   store-refused,
@@ -24,31 +25,29 @@ returns c = (
 )
 
 vertex-count-requires : tie.Need-vertex-count-requires
-vertex-count-requires c κs = omega (arith, whole-accepted _ (c .before .before .before .before .args .store .now) (sym (c .before .load-fault .ensures) ∙ c .if1 .left))
+vertex-count-requires c κs = omega (arith, accepted _ (file-accepted _ (c .before .before .before .before .args .store .now) (sym (c .before .load-fault .ensures) ∙ c .if1 .left)) .sized)
 
 edge-count-requires : tie.Need-edge-count-requires
-edge-count-requires c κs = omega (arith, whole-accepted _ (c .before .before .before .before .before .args .store .now) (sym (c .before .before .load-fault .ensures) ∙ c .before .if1 .left))
+edge-count-requires c κs = omega (arith, accepted _ (file-accepted _ (c .before .before .before .before .before .args .store .now) (sym (c .before .before .load-fault .ensures) ∙ c .before .if1 .left)) .sized)
 
 fill-requires : tie.Need-fill-requires
 fill-requires c κs =
+    let store = c .before .before .before .before .before .before .before .args .store .now in
+    let e = sym (c .before .before .before .before .load-fault .ensures) ∙ c .before .before .before .if1 .left in
     let vn = c .before .before .vertex-count .ensures .0 in
     let vm = c .before .edge-count .ensures .0 in
-    let e = sym (c .before .before .before .before .load-fault .ensures) ∙ c .before .before .before .if1 .left in (
-      file-accepted _ (c .before .before .before .before .before .before .before .args .store .now) e,
-      rw vn (whole-accepted _ (c .before .before .before .before .before .before .before .args .store .now) e),
-      vm,
-      rw (vn, vm) (room-accepted _ (c .before .before .before .before .before .before .before .args .store .now) e),
-    )
+    (file-accepted _ store e, whole-accepted _ store e vn, vm, room-accepted _ store e vn vm)
 
 same-length : tie.Need-same-length
 same-length c = search needs
 
 returns-2 : tie.Need-returns-2
 returns-2 c =
+    let store = c .before .before .before .before .before .before .before .before .before .before .args .store .now in
+    let e = sym (c .before .before .before .before .before .before .before .load-fault .ensures) ∙ c .before .before .before .before .before .before .if1 .left in
     let vn = c .before .before .before .before .before .vertex-count .ensures .0 in
     let vm = c .before .before .before .before .edge-count .ensures .0 in
-    let e = sym (c .before .before .before .before .before .before .before .load-fault .ensures) ∙ c .before .before .before .before .before .before .if1 .left in
-    (answer-accepted _ (c .before .before .before .before .before .before .before .before .before .before .args .store .now) e vn vm, store-accepted _ (c .before .before .before .before .before .before .before .before .before .before .args .store .now) e vn vm (c .before .before .fill .ensures))
+    (answer-accepted _ store e vn vm, store-accepted _ store e vn vm (c .before .before .fill .ensures))
 
 pub load-spec : {M : Type 1} → statement M
 load-spec =
