@@ -13,3 +13,4 @@ pub mod Sized
 pub mod Turning
 pub mod Operated
 pub mod Linked
+pub mod Running
