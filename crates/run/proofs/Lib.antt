@@ -12,3 +12,5 @@ pub mod Steps
 pub mod Sized
 pub mod Turning
 pub mod Operated
+pub mod Linked
+pub mod Running

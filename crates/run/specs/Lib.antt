@@ -4,3 +4,4 @@ pub mod Run
 pub mod Complete
 pub mod Scratch
 pub mod Live
+pub mod Ran
