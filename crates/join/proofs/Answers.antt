@@ -1,7 +1,7 @@
 -- What a join answers, and what it leaves from the live top on. Assumes nothing.
 use mathlib.Core.Path.{_≡_, refl, sym, _∙_, ap, ap₂}
 use mathlib.Core.Bool.{Bool, true, false}
-use mathlib.Core.List.{List, [], _∷_, _++_, map, flatMap, flatten}
+use mathlib.Core.List.{List, _++_, flatMap, flatten}
 use Prim.Native.Nat.{ℕ, zero, suc, _+_, _-_, _*_, _/_, _≤_, _<_}
 use native.Mathlib.Nat.{mul-div-cancel, mul-le-mul-left}
 use native.Mathlib.Omega.{arith}
@@ -18,16 +18,15 @@ use Rattle.query.specs.File.{maxVertices}
 use Rattle.query.specs.Mask.{inMask}
 use Rattle.query.proofs.Masks.{in-or}
 use Rattle.plan.specs.Plan.{union}
-use Rattle.matching.specs.Row.{width, pack, look, rowsOf}
+use Rattle.matching.specs.Row.{width, pack, rowsOf}
 use Rattle.matching.proofs.Rows.{isRow, pack-row}
 use Rattle.operators.specs.Join.{joined, partners, joinRows, heads}
 use Rattle.operators.specs.Written.{Written}
-use Rattle.operators.specs.declared.Output.{Output}
 use Rattle.rows.proofs.Widths.{width-past, width-zero, width-suc}
 use Rattle.rows.proofs.Laid.{rows-wide, length-flatten}
-use Rattle.join.specs.Place.{Laid, buildRows}
+use Rattle.join.specs.Place.{buildRows}
 use Rattle.join.specs.Joined.{probeWords, Filled}
-use Rattle.join.specs.Operands.{Operands, Members, Widths, IsLayout, columnsFor, JoinWritten}
+use Rattle.join.specs.Operands.{Operands, Members, IsLayout, columnsFor}
 use Rattle.join.specs.declared.Layout.{Layout}
 use Rattle.join.specs.declared.Reached.{Reached}
 use Rattle.join.proofs.Meaning.{row-is, both-width, words-are}
