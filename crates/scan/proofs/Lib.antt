@@ -1,0 +1,4 @@
+-- Laws of scan.
+pub mod Listing
+pub mod Loop
+pub mod Meaning

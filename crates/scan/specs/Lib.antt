@@ -1,0 +1,2 @@
+-- Scan, source by source.
+pub mod Sources
