@@ -31,6 +31,14 @@ use Rattle.join.specs.declared.Layout.{Layout}
 use Rattle.join.specs.declared.Reached.{Reached}
 use Rattle.join.proofs.Meaning.{row-is, both-width, words-are}
 
+-- Operands over n vertices, as a pile of a query has them.
+pub operands-for : (n b p base builds probes top words : ℕ) → n ≤ maxVertices → Members n b → Members n p → 0 < width n (inMask b)
+    → base + builds * width n (inMask b) + probes * width n (inMask p) ≡ top → top ≤ words → words < 4294967296 → Operands b p base builds probes top words
+operands-for n b p base builds probes top words few inB inP some ends below indexed =
+    let build : width maxVertices (inMask b) ≡ width n (inMask b) = width-past n maxVertices (inMask b) few inB in
+    let probe : width maxVertices (inMask p) ≡ width n (inMask p) = width-past n maxVertices (inMask p) few inP in
+    record { some = rw build some; ends = rw (build, probe) ends; below = below; indexed = indexed }
+
 -- The build rows are no more than the words of scratch.
 pub builds-few : {b p base builds probes top words : ℕ} → Operands b p base builds probes top words → builds ≤ words
 builds-few {b} {p} {base} {builds} {probes} {top} {words} o =

@@ -4,11 +4,13 @@ use mathlib.Core.Bool.{true, false, _&&_}
 use mathlib.Core.List.{List, map, map-map}
 use Prim.Native.Nat.{ℕ, _+_, _*_, _≤_, _<_}
 use native.Mathlib.Omega.{arith}
-use lib.Dec.{leb}
+use lib.Dec.{leb, ltb}
 use lib.ListN.{length, getD, take, length-map, List·getD-map}
-use borrow.Author.Tests.{leb-true}
-use Rattle.lists.specs.Lists.{range}
+use borrow.Author.Tests.{leb-true, lt-ltb}
+use Rattle.lists.specs.Lists.{range, all}
 use Rattle.lists.proofs.Tests.{and-l, and-r, not-false}
+use Rattle.lists.proofs.All.{all-range}
+use Rattle.lists.proofs.Count.{all-map}
 use Rattle.packed.specs.Field.{fieldAt}
 use Rattle.packed.proofs.Laws.{field-lt}
 use Rattle.graph.specs.Graph.{Edge}
@@ -77,6 +79,13 @@ module _ (s : List ℕ) (ok : outsideLimits s ≡ false) where
 pub file-struct : (s : List ℕ) → queryIn (structOf (queryOf s)) ≡ queryOf s
 unfolding queryOf
 file-struct s = in-struct (queryOf s) (length-image (λ (w : ℕ). fieldAt s (9 + 16 * w) 16) (vertexCount s))
+
+-- Its labels are bytes.
+pub file-labels : (s : List ℕ) → all (λ (e : Edge). ltb (e .label) 256) (queryOf s .edges) ≡ true
+unfolding queryOf
+file-labels s =
+    all-map (λ (e : Edge). ltb (e .label) 256) (edgeIn s) (range (edgeCount s))
+    ∙ all-range (λ (i : ℕ). ltb (edgeIn s i .label) 256) (edgeCount s) (λ i l. lt-ltb (edgeIn s i .label) 256 (field-lt s (edgeStart s i + 6) 8))
 
 -- The edges of a file's query.
 pub file-edge : (s : List ℕ) (i : ℕ) → i < edgeCount s → edgeAt (queryOf s) i ≡ edgeIn s i

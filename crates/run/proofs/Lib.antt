@@ -13,4 +13,7 @@ pub mod Sized
 pub mod Turning
 pub mod Operated
 pub mod Linked
+pub mod Insides
 pub mod Running
+pub mod Ended
+pub mod Answers

@@ -5,3 +5,4 @@ pub mod Complete
 pub mod Scratch
 pub mod Live
 pub mod Ran
+pub mod Answered
