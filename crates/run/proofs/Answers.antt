@@ -1,15 +1,14 @@
 -- What Run answers, from the pile of its plan; and Run's definitions by what decides. Assumes nothing.
-use mathlib.Core.Path.{_≡_, refl, sym, _∙_, ap, ap₂, subst}
-use mathlib.Core.Bool.{Bool, true, false, cond}
-use mathlib.Core.List.{List, [], _∷_, _++_, flatten}
-use Prim.Native.Nat.{ℕ, _+_, _-_, _*_, _≤_, _<_, min}
+use mathlib.Core.Path.{_≡_, refl, sym, _∙_, ap, ap₂}
+use mathlib.Core.Bool.{Bool, true, false}
+use mathlib.Core.List.{List, _++_, flatten}
+use Prim.Native.Nat.{ℕ, _+_, _-_, _*_, _≤_, _<_}
 use native.Mathlib.Omega.{arith}
 use lib.Dec.{eqb, ltb}
-use lib.ListN.{length, take, drop, getD, replicate}
+use lib.ListN.{length, take, drop, replicate}
 use lib.Seq.{take-at, drop-at}
 use borrow.Author.Tests.{eqb-true, lt-ltb, le-ltb, ltb-true, ltb-false}
-use Rattle.lists.specs.Lists.{all}
-use Rattle.lists.specs.Refusal.{refuse, first, answered}
+use Rattle.lists.specs.Refusal.{first, answered}
 use Rattle.lists.proofs.Tests.{clash, fails}
 use Rattle.lists.proofs.Faults.{first-cons}
 use Rattle.graph.specs.Graph.{Graph}
@@ -19,8 +18,8 @@ use Rattle.query.specs.File.{queryOf}
 use Rattle.query.proofs.Refusals.{first-some}
 use Rattle.plan.specs.Plan.{Operator}
 use Rattle.plan.specs.File.{operatorsOf, checkFault}
-use Rattle.run.specs.Run.{RunAnswer, counted, planRows, planCost, planBuild, planProbe, planNeed, runFault, runAnswer, runList, runScratch}
-use Rattle.run.specs.Ran.{Finished, Ran}
+use Rattle.run.specs.Run.{RunAnswer, counted, planRows, planNeed, runFault, runAnswer, runList, runScratch}
+use Rattle.run.specs.Ran.{Ran}
 use Rattle.run.specs.Answered.{lengthFault, Answered}
 use Rattle.run.specs.declared.pile.Pile.{Pile}
 
