@@ -1,0 +1,90 @@
+/* Subgraph matching: load a packed graph, check a plan, run it. Link libc_api.a.
+ *
+ * Every function returns 0, or the number of a refusal (below). After a refusal every number that a pointer takes is 0.
+ * No input is a fault: any bytes and words, and any lengths, are answered. What is proved of each function is its contract in
+ * crates/c_api/src/lib.rt; what the caller owes, and no proof can see, is what its pointers are:
+ *
+ *  - a pointer with a length points to that many bytes or words, which may be read, and written where it is not const;
+ *  - no pointer is null, also where the length is 0, and each is aligned as its type asks;
+ *  - what is written (store, scratch, list, the single numbers) overlaps nothing else that is passed;
+ *  - a bool is true or false.
+ *
+ * Nothing is kept between calls, and no function allocates, waits or prints: calls on different buffers may run at once, and
+ * any number of runs may share one store.
+ *
+ * The three files are packed bit by bit, most significant first, and zero bits fill the last byte:
+ *
+ *   graph  N (16 bits), M (20), N vertex labels (16), M edges of source (16), label (8), target (16), strictly ascending;
+ *   query  n (4 bits, 2 to 8), m (5, 1 to 24), n vertex labels (16, 0 fits all), m edges of from (3), to (3), label (8);
+ *   plan   operator count (5 bits), then operators of a kind (2 bits): 0 scan of a query edge's index (5), 1 extend by a query
+ *          vertex (3), 2 join.
+ */
+#ifndef TRACE_H
+#define TRACE_H
+
+#include <stdbool.h>
+#include <stddef.h>
+#include <stdint.h>
+
+#ifdef __cplusplus
+extern "C" {
+#endif
+
+enum trace_refusal {
+    TRACE_ACCEPTED = 0,
+    TRACE_GRAPH_SHORT = 1,          /* the graph file is shorter than 5 bytes or than its own size */
+    TRACE_GRAPH_LONG = 2,           /* it is longer than its own size, or a fill bit is set */
+    TRACE_GRAPH_EDGE = 3,           /* an edge has a vertex outside 0 to N - 1, or label 0 */
+    TRACE_GRAPH_ORDER = 4,          /* the edges do not ascend strictly */
+    TRACE_STORE_SMALL = 5,          /* the store is shorter than 3 N + 2 M + 4 words */
+    TRACE_QUERY_SHORT = 6,          /* the query file is shorter than 2 bytes or than its own size */
+    TRACE_QUERY_LONG = 7,           /* it is longer than its own size, or a fill bit is set */
+    TRACE_QUERY_LIMITS = 8,         /* it has not 2 to 8 vertices and 1 to 24 edges */
+    TRACE_QUERY_EDGE = 9,           /* an edge has a vertex not below n, equal ends, or label 0 */
+    TRACE_QUERY_ORDER = 10,         /* the edges do not ascend strictly */
+    TRACE_QUERY_APART = 11,         /* the query is not connected */
+    TRACE_PLAN_SHORT = 12,          /* the plan file's bits run out */
+    TRACE_PLAN_LONG = 13,           /* it has a further byte, or a fill bit is set */
+    TRACE_PLAN_OPERATOR = 14,       /* no operator, kind 3, or an edge or vertex that the query lacks */
+    TRACE_PLAN_PILE = 15,           /* too few results for an operator, or more than one at the end */
+    TRACE_PLAN_EXTEND = 16,         /* an extend by a covered vertex, or with no edge to the covered ones */
+    TRACE_PLAN_JOIN = 17,           /* a join of sides that share no vertex, or of which one has none of its own, or between
+                                       which a query edge runs that lies in neither */
+    TRACE_PLAN_UNCOVERED = 18,      /* the plan leaves a query vertex uncovered */
+    TRACE_STORE_DAMAGED = 19,       /* no accepted graph file loads to this store */
+    TRACE_SCRATCH_SMALL = 20,       /* the run needs more scratch */
+    TRACE_LIST_SMALL = 21           /* the rows do not fit the match list */
+};
+
+/* Loads a graph file into a store of 3 N + 2 M + 4 words or more, and gives N and M. Refusals 1 to 5.
+ * Refused, the store is untouched; loaded, the words past the used ones are. */
+uint32_t trace_load(const uint8_t *file, size_t file_len,
+                    uint32_t *store, size_t store_len,
+                    uint64_t *vertices, uint64_t *edges);
+
+/* Checks a plan against a query, and gives the plan's number of operators. Refusals 6 to 18. */
+uint32_t trace_check_plan(const uint8_t *query, size_t query_len,
+                          const uint8_t *plan, size_t plan_len,
+                          uint64_t *operators);
+
+/* Runs a plan over a store, and gives the number of rows, the cost, and the sums of build rows and probe rows over all joins.
+ * Refusals 6 to 21.
+ *
+ * A row is n words, the data vertices of query vertices 0 to n - 1; the rows are the matches of the query, each once, from the
+ * list's first word on. Refused, the list is untouched; accepted, its words past the last row are. The scratch is zero
+ * afterwards, whatever the answer. Scratch or list longer than 1,073,741,824 words counts as that long, and the rest is
+ * untouched. With the cache on, an extend reuses the vertices found for the row just before where it may: the rows are the
+ * same, and the cost is no higher. */
+uint32_t trace_run(const uint32_t *store, size_t store_len,
+                   const uint8_t *query, size_t query_len,
+                   const uint8_t *plan, size_t plan_len,
+                   bool cache,
+                   uint32_t *scratch, size_t scratch_len,
+                   uint32_t *list, size_t list_len,
+                   uint64_t *rows, uint64_t *cost, uint64_t *build, uint64_t *probe);
+
+#ifdef __cplusplus
+}
+#endif
+
+#endif
