@@ -1,0 +1,41 @@
+/* Loads a graph of four vertices, lists its triangles, and shows a refusal. */
+#include <inttypes.h>
+#include <stdio.h>
+
+#include "trace.h"
+
+/* Edges of label 1: 0->1, 0->2, 1->2, 1->3, 2->3. */
+static const uint8_t graph[] = {
+    0x00, 0x04, 0x00, 0x00, 0x50, 0x00, 0x00, 0x00, 0x00, 0x00, 0x00, 0x00, 0x00, 0x00, 0x00, 0x10, 0x00, 0x10, 0x00, 0x00,
+    0x10, 0x00, 0x20, 0x00, 0x10, 0x10, 0x00, 0x20, 0x00, 0x10, 0x10, 0x00, 0x30, 0x00, 0x20, 0x10, 0x00, 0x30,
+};
+
+/* The triangle 0->1, 0->2, 1->2; scan edge 0, extend by vertex 2. */
+static const uint8_t query[] = {0x31, 0x80, 0x00, 0x00, 0x00, 0x00, 0x00, 0x02, 0x02, 0x10, 0x09, 0x40, 0x20};
+static const uint8_t plan[] = {0x10, 0x05, 0x00};
+
+static uint32_t store[26], scratch[16], list[6];
+
+int main(void)
+{
+    uint64_t vertices, edges, operators, rows, cost, build, probe;
+    uint32_t refusal = trace_load(graph, sizeof graph, store, 26, &vertices, &edges);
+    if (refusal == 0)
+        refusal = trace_check_plan(query, sizeof query, plan, sizeof plan, &operators);
+    if (refusal == 0)
+        refusal = trace_run(store, 26, query, sizeof query, plan, sizeof plan, true, scratch, 16, list, 6,
+                            &rows, &cost, &build, &probe);
+    if (refusal != 0) {
+        printf("refused %" PRIu32 "\n", refusal);
+        return 1;
+    }
+    printf("graph %" PRIu64 " %" PRIu64 " plan %" PRIu64 "\n", vertices, edges, operators);
+    printf("matches %" PRIu64 " cost %" PRIu64 " build %" PRIu64 " probe %" PRIu64 "\n", rows, cost, build, probe);
+    for (uint64_t i = 0; i < rows; i++)
+        printf("%" PRIu32 " %" PRIu32 " %" PRIu32 "\n", list[3 * i], list[3 * i + 1], list[3 * i + 2]);
+
+    refusal = trace_run(store, 26, query, sizeof query, plan, sizeof plan, true, scratch, 15, list, 6,
+                        &rows, &cost, &build, &probe);
+    printf("with 15 words of scratch: %s, rows %" PRIu64 "\n", refusal == TRACE_SCRATCH_SMALL ? "refused 20" : "accepted", rows);
+    return 0;
+}

@@ -1,0 +1,113 @@
+//! The three operations over borrowed buffers: the only place that calls the static library.
+#![allow(unsafe_code)]
+
+use crate::{sys, Refusal};
+
+/// Scratch or a match list longer than this counts as this long, and the rest of it is untouched.
+pub const MAX_WORDS: usize = 1 << 30;
+
+/// Whether an extend reuses the vertices that it found for the row just before, where it may. The rows are the same, and the
+/// cost with it on is no higher.
+#[derive(Clone, Copy, Debug, PartialEq, Eq, Hash)]
+pub enum Cache {
+    /// Every row is looked up.
+    Off,
+    /// Rows like the one before reuse its vertices.
+    On,
+}
+
+/// The counts of a loaded graph.
+#[derive(Clone, Copy, Debug, PartialEq, Eq)]
+pub struct Loaded {
+    /// How many vertices the graph has.
+    pub vertices: usize,
+    /// How many edges it has.
+    pub edges: usize,
+}
+
+/// The numbers of an accepted run.
+#[derive(Clone, Copy, Debug, PartialEq, Eq)]
+pub struct Run {
+    /// How many matches there are.
+    pub rows: usize,
+    /// The lengths of the neighbour lists that the extends intersected, together.
+    pub cost: u64,
+    /// Build rows over all joins.
+    pub build: u64,
+    /// Probe rows over all joins.
+    pub probe: u64,
+}
+
+/// 0 is accepted; any other number is a refusal.
+fn accepted(number: u32) -> Result<(), Refusal> {
+    if number == 0 {
+        return Ok(());
+    }
+    Err(Refusal::from_number(number).unwrap_or_else(|| {
+        panic!("the static library answers {number}, which is no refusal that this crate knows: they are not of one version")
+    }))
+}
+
+fn size(number: u64) -> usize {
+    usize::try_from(number).expect("a count of words fits a usize")
+}
+
+/// Loads a graph file into a store that the caller lends. Refused, the store is untouched; loaded, the words past the used ones
+/// are.
+pub fn load_into(file: &[u8], store: &mut [u32]) -> Result<Loaded, Refusal> {
+    let (mut vertices, mut edges) = (0, 0);
+    // SAFETY: each pointer and length are those of one slice, and the numbers are locals. The store is borrowed alone.
+    let number = unsafe {
+        sys::trace_load(file.as_ptr(), file.len(), store.as_mut_ptr(), store.len(), &mut vertices, &mut edges)
+    };
+    accepted(number)?;
+    Ok(Loaded { vertices: size(vertices), edges: size(edges) })
+}
+
+/// Checks a plan against a query; answers how many operators it has.
+pub fn check_plan(query: &[u8], plan: &[u8]) -> Result<usize, Refusal> {
+    let mut operators = 0;
+    // SAFETY: each pointer and length are those of one slice, and the number is a local.
+    let number = unsafe {
+        sys::trace_check_plan(query.as_ptr(), query.len(), plan.as_ptr(), plan.len(), &mut operators)
+    };
+    accepted(number)?;
+    Ok(size(operators))
+}
+
+/// Runs a plan over a store: the rows are the list's first words, as many a row as the query has vertices.
+///
+/// Any words may stand for a store: those that no graph file loads to are refused. Refused, the list is untouched; accepted,
+/// its words past the last row are. The scratch, up to [`MAX_WORDS`], is zero afterwards in both cases.
+pub fn run(
+    store: &[u32],
+    query: &[u8],
+    plan: &[u8],
+    cache: Cache,
+    scratch: &mut [u32],
+    list: &mut [u32],
+) -> Result<Run, Refusal> {
+    let (mut rows, mut cost, mut build, mut probe) = (0, 0, 0, 0);
+    // SAFETY: each pointer and length are those of one slice, and the numbers are locals. Scratch and list are borrowed alone.
+    let number = unsafe {
+        sys::trace_run(
+            store.as_ptr(),
+            store.len(),
+            query.as_ptr(),
+            query.len(),
+            plan.as_ptr(),
+            plan.len(),
+            cache == Cache::On,
+            scratch.as_mut_ptr(),
+            scratch.len(),
+            list.as_mut_ptr(),
+            list.len(),
+            &mut rows,
+            &mut cost,
+            &mut build,
+            &mut probe,
+        )
+    };
+    accepted(number)?;
+    Ok(Run { rows: size(rows), cost, build, probe })
+}

@@ -1,0 +1,46 @@
+//! Subgraph matching by a proved engine: load a packed graph, check a plan, run it.
+//!
+//! The engine is written in Rattle and proved to meet its contracts: after an accepted run the list holds every match of the
+//! query once, and nothing else. This crate is a thin, safe wrapper of its static library. It is not proved: all that it does
+//! is to hand slices over as pointers and lengths, and to turn the answer into a [`Result`].
+//!
+//! ```
+//! use trace::{Buffers, Cache, Store};
+//!
+//! // Four vertices; edges of label 1: 0→1, 0→2, 1→2, 1→3, 2→3.
+//! let graph = [
+//!     0x00, 0x04, 0x00, 0x00, 0x50, 0x00, 0x00, 0x00, 0x00, 0x00, 0x00, 0x00, 0x00, 0x00, 0x00, 0x10, 0x00, 0x10, 0x00, 0x00,
+//!     0x10, 0x00, 0x20, 0x00, 0x10, 0x10, 0x00, 0x20, 0x00, 0x10, 0x10, 0x00, 0x30, 0x00, 0x20, 0x10, 0x00, 0x30,
+//! ];
+//! // The triangle 0→1, 0→2, 1→2, and the plan 'scan edge 0, extend by vertex 2'.
+//! let query = [0x31, 0x80, 0, 0, 0, 0, 0, 0x02, 0x02, 0x10, 0x09, 0x40, 0x20];
+//! let plan = [0x10, 0x05, 0x00];
+//!
+//! let store = Store::load(&graph)?;
+//! let mut buffers = Buffers::new();
+//! let matches = store.run_growing(&query, &plan, Cache::On, &mut buffers)?;
+//! assert_eq!(matches.rows().collect::<Vec<_>>(), [[0, 1, 2], [1, 2, 3]]);
+//! assert_eq!(matches.cost, 13);
+//! # Ok::<(), trace::Refusal>(())
+//! ```
+//!
+//! # Buffers
+//!
+//! A [`Store`] owns the words of a graph. A run needs scratch and a list for its rows. [`run`] and [`Store::run`] borrow both from
+//! the caller and refuse a run for which they are too short; [`Store::run_growing`] makes them larger until the run fits.
+//! The scratch is zero after every run, refused ones too.
+
+#![deny(unsafe_code)]
+#![warn(missing_docs)]
+
+#[cfg(not(all(target_arch = "x86_64", target_os = "linux")))]
+compile_error!("the static library is for x86-64 Linux");
+
+mod engine;
+mod refusal;
+mod store;
+pub mod sys;
+
+pub use engine::{check_plan, load_into, run, Cache, Loaded, Run, MAX_WORDS};
+pub use refusal::Refusal;
+pub use store::{Buffers, Matches, Store};

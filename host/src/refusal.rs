@@ -1,0 +1,84 @@
+//! Why an operation refuses its input.
+use std::fmt;
+
+macro_rules! refusals {
+    ($($name:ident = $number:literal, $meaning:literal;)*) => {
+        /// Why an operation refuses its input. Each operation gives the first that holds, in its own order, and has then changed
+        /// nothing but the scratch, which is zero.
+        #[derive(Clone, Copy, Debug, PartialEq, Eq, PartialOrd, Ord, Hash)]
+        #[non_exhaustive]
+        pub enum Refusal {
+            $(#[doc = $meaning] $name = $number,)*
+        }
+
+        impl Refusal {
+            /// Every refusal, by number.
+            pub const ALL: &'static [Refusal] = &[$(Refusal::$name,)*];
+
+            /// What it means, in words.
+            pub fn meaning(self) -> &'static str {
+                match self {
+                    $(Refusal::$name => $meaning,)*
+                }
+            }
+        }
+    };
+}
+
+refusals! {
+    GraphShort = 1, "the graph file is shorter than 5 bytes or than its own size";
+    GraphLong = 2, "the graph file is longer than its own size, or a fill bit is set";
+    GraphEdge = 3, "an edge of the graph has a vertex that is not below the number of vertices, or label 0";
+    GraphOrder = 4, "the edges of the graph do not ascend strictly";
+    StoreSmall = 5, "the store is too small for the graph";
+    QueryShort = 6, "the query file is shorter than 2 bytes or than its own size";
+    QueryLong = 7, "the query file is longer than its own size, or a fill bit is set";
+    QueryLimits = 8, "the query has not 2 to 8 vertices and 1 to 24 edges";
+    QueryEdge = 9, "an edge of the query has a vertex that is not below the number of vertices, equal ends, or label 0";
+    QueryOrder = 10, "the edges of the query do not ascend strictly";
+    QueryApart = 11, "the query is not connected";
+    PlanShort = 12, "the bits of the plan file run out";
+    PlanLong = 13, "the plan file has a further byte, or a fill bit is set";
+    PlanOperator = 14, "the plan has no operator, an unknown one, or one with an edge or a vertex that the query lacks";
+    PlanPile = 15, "an operator finds too few results, or more than one is left at the end";
+    PlanExtend = 16, "an extend is by a covered vertex, or by one with no edge to the covered ones";
+    PlanJoin = 17, "a join's sides share no vertex, or one has none of its own, or a query edge runs between them";
+    PlanUncovered = 18, "the plan leaves a query vertex uncovered";
+    StoreDamaged = 19, "no accepted graph file loads to this store";
+    ScratchSmall = 20, "the run needs more scratch";
+    ListSmall = 21, "the rows do not fit the match list";
+}
+
+impl Refusal {
+    /// Its number, 1 to 21.
+    pub fn number(self) -> u32 {
+        self as u32
+    }
+
+    /// The refusal of a number, if there is one.
+    pub fn from_number(number: u32) -> Option<Refusal> {
+        Refusal::ALL.iter().copied().find(|r| r.number() == number)
+    }
+}
+
+impl fmt::Display for Refusal {
+    fn fmt(&self, f: &mut fmt::Formatter<'_>) -> fmt::Result {
+        write!(f, "refused ({}): {}", self.number(), self.meaning())
+    }
+}
+
+impl std::error::Error for Refusal {}
+
+#[cfg(test)]
+mod tests {
+    use super::Refusal;
+
+    #[test]
+    fn numbers_are_1_to_21_in_order() {
+        let numbers: Vec<u32> = Refusal::ALL.iter().map(|r| r.number()).collect();
+        assert_eq!(numbers, (1..=21).collect::<Vec<_>>());
+        assert_eq!(Refusal::from_number(20), Some(Refusal::ScratchSmall));
+        assert_eq!(Refusal::from_number(0), None);
+        assert_eq!(Refusal::from_number(22), None);
+    }
+}

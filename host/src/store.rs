@@ -1,0 +1,160 @@
+//! A store that owns its words, and buffers that grow.
+use crate::{load_into, run, Cache, Refusal, Run, MAX_WORDS};
+
+/// A loaded graph: the words that the engine reads.
+#[derive(Clone, Debug, PartialEq, Eq)]
+pub struct Store {
+    words: Vec<u32>,
+}
+
+/// How many words the store of a graph file needs: 3 N + 2 M + 4, by the file's first 36 bits. A file too short to have them is
+/// refused, whatever the store.
+fn words_for(file: &[u8]) -> usize {
+    let Some(head) = file.first_chunk::<5>() else { return 0 };
+    let [a, b, c, d, e] = head.map(usize::from);
+    let vertices = a << 8 | b;
+    let edges = c << 12 | d << 4 | e >> 4;
+    if file.len() < 5 + 2 * vertices + 5 * edges {
+        return 0;
+    }
+    3 * vertices + 2 * edges + 4
+}
+
+impl Store {
+    /// Loads a graph file into a store of just the words that it needs.
+    pub fn load(file: &[u8]) -> Result<Store, Refusal> {
+        let mut words = vec![0; words_for(file)];
+        load_into(file, &mut words)?;
+        Ok(Store { words })
+    }
+
+    /// A store of words that were loaded before. They are not looked at here: a run refuses words that no graph file loads to
+    /// ([`Refusal::StoreDamaged`]).
+    pub fn from_words(words: Vec<u32>) -> Store {
+        Store { words }
+    }
+
+    /// The words of the store.
+    pub fn words(&self) -> &[u32] {
+        &self.words
+    }
+
+    /// The words of the store, for keeping elsewhere.
+    pub fn into_words(self) -> Vec<u32> {
+        self.words
+    }
+
+    /// How many vertices the graph has, as the store says.
+    pub fn vertices(&self) -> usize {
+        self.words.first().map_or(0, |&n| n as usize)
+    }
+
+    /// How many edges the graph has, as the store says.
+    pub fn edges(&self) -> usize {
+        self.words.get(1).map_or(0, |&m| m as usize)
+    }
+
+    /// Runs a plan in scratch and list of the caller's, whose lengths decide whether it is refused.
+    pub fn run<'l>(
+        &self,
+        query: &[u8],
+        plan: &[u8],
+        cache: Cache,
+        scratch: &mut [u32],
+        list: &'l mut [u32],
+    ) -> Result<Matches<'l>, Refusal> {
+        let answer = run(&self.words, query, plan, cache, scratch, list)?;
+        Ok(Matches::new(query, answer, list))
+    }
+
+    /// Runs a plan in buffers that grow until it fits, up to [`MAX_WORDS`] words each. A run that is refused for want of room is
+    /// made again from its start, in twice the room; the buffers keep their size for the next run.
+    pub fn run_growing<'b>(
+        &self,
+        query: &[u8],
+        plan: &[u8],
+        cache: Cache,
+        buffers: &'b mut Buffers,
+    ) -> Result<Matches<'b>, Refusal> {
+        let answer = loop {
+            let Buffers { scratch, list } = &mut *buffers;
+            match run(&self.words, query, plan, cache, scratch, list) {
+                Err(Refusal::ScratchSmall) if scratch.len() < MAX_WORDS => grow(scratch),
+                Err(Refusal::ListSmall) if list.len() < MAX_WORDS => grow(list),
+                answer => break answer?,
+            }
+        };
+        Ok(Matches::new(query, answer, &buffers.list))
+    }
+}
+
+fn grow(buffer: &mut Vec<u32>) {
+    let words = (2 * buffer.len()).clamp(1024, MAX_WORDS);
+    buffer.resize(words, 0);
+}
+
+/// Scratch and list for runs, grown as they ask for it.
+#[derive(Clone, Debug, Default)]
+pub struct Buffers {
+    scratch: Vec<u32>,
+    list: Vec<u32>,
+}
+
+impl Buffers {
+    /// Buffers of no words.
+    pub fn new() -> Buffers {
+        Buffers::default()
+    }
+
+    /// Buffers of so many words of scratch and of list to begin with.
+    pub fn with_words(scratch: usize, list: usize) -> Buffers {
+        Buffers { scratch: vec![0; scratch], list: vec![0; list] }
+    }
+}
+
+/// The matches of an accepted run: rows of the borrowed list.
+#[derive(Clone, Copy, Debug, PartialEq, Eq)]
+pub struct Matches<'l> {
+    words: &'l [u32],
+    width: usize,
+    /// The lengths of the neighbour lists that the extends intersected, together.
+    pub cost: u64,
+    /// Build rows over all joins.
+    pub build: u64,
+    /// Probe rows over all joins.
+    pub probe: u64,
+}
+
+impl<'l> Matches<'l> {
+    /// Of an accepted run of a query, whose file begins with its number of vertices in 4 bits.
+    fn new(query: &[u8], answer: Run, list: &'l [u32]) -> Matches<'l> {
+        let width = usize::from(query[0] >> 4);
+        let Run { rows, cost, build, probe } = answer;
+        Matches { words: &list[..rows * width], width, cost, build, probe }
+    }
+
+    /// How many matches there are.
+    pub fn len(&self) -> usize {
+        self.words.len() / self.width
+    }
+
+    /// Whether there is none.
+    pub fn is_empty(&self) -> bool {
+        self.words.is_empty()
+    }
+
+    /// How many words a match has: one for each query vertex.
+    pub fn width(&self) -> usize {
+        self.width
+    }
+
+    /// The matches in the plan's order, each the data vertices of query vertices 0, 1, ...
+    pub fn rows(&self) -> impl ExactSizeIterator<Item = &'l [u32]> + DoubleEndedIterator + Clone + 'l {
+        self.words.chunks_exact(self.width)
+    }
+
+    /// The words of all matches, one match after the other.
+    pub fn words(&self) -> &'l [u32] {
+        self.words
+    }
+}

@@ -1,0 +1,53 @@
+//! The functions of the static library, as `trace.h` gives them.
+//!
+//! Nothing checks these lines against the Rattle source but the tests. Callers want the safe functions of the crate's root.
+
+extern "C" {
+    /// Load. See `trace.h`.
+    ///
+    /// # Safety
+    /// Each pointer is aligned, not null, and points to as many bytes or words as the length after it says, a pointer with no
+    /// length to one number. What is written overlaps nothing else that is passed.
+    pub fn trace_load(
+        file: *const u8,
+        file_len: usize,
+        store: *mut u32,
+        store_len: usize,
+        vertices: *mut u64,
+        edges: *mut u64,
+    ) -> u32;
+
+    /// Check plan. See `trace.h`.
+    ///
+    /// # Safety
+    /// As for [`trace_load`].
+    pub fn trace_check_plan(
+        query: *const u8,
+        query_len: usize,
+        plan: *const u8,
+        plan_len: usize,
+        operators: *mut u64,
+    ) -> u32;
+
+    /// Run. See `trace.h`.
+    ///
+    /// # Safety
+    /// As for [`trace_load`].
+    pub fn trace_run(
+        store: *const u32,
+        store_len: usize,
+        query: *const u8,
+        query_len: usize,
+        plan: *const u8,
+        plan_len: usize,
+        cache: bool,
+        scratch: *mut u32,
+        scratch_len: usize,
+        list: *mut u32,
+        list_len: usize,
+        rows: *mut u64,
+        cost: *mut u64,
+        build: *mut u64,
+        probe: *mut u64,
+    ) -> u32;
+}

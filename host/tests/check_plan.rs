@@ -1,0 +1,108 @@
+//! Check plan against the judge's readers.
+mod judge;
+
+use judge::calls;
+use judge::plan;
+use judge::query::Query;
+use judge::random::{each, Random};
+
+/// Compares the answer; answers the refusal.
+fn compare(r: &Random, query: &[u8], plan: &[u8]) -> u32 {
+    let want = match Query::read(query).and_then(|query| plan::read(&query, plan)) {
+        Err(refusal) => (refusal, 0),
+        Ok(operators) => (0, operators.len() as u64),
+    };
+    let got = calls::check_plan(r, query, plan);
+    assert_eq!(got, want);
+    got.0
+}
+
+/// A query whose parts are not what they should be.
+fn disturb(r: &Random, query: &mut Query) {
+    let at = r.below(query.edges.len());
+    match r.below(6) {
+        0 => query.edges[at].2 = 0,
+        1 => query.edges[at].1 = query.edges[at].0,
+        2 => query.edges[at].0 = r.below(8),
+        3 => {
+            let other = r.below(query.edges.len());
+            query.edges.swap(at, other);
+        }
+        4 => drop(query.edges.remove(at)),
+        _ => query.labels.resize(r.below(10), 0),
+    }
+}
+
+#[test]
+fn random_queries_and_plans_valid_and_damaged() {
+    let mut seen = [0; 19];
+    each(0..60_000, |r| {
+        let mut query = Query::random(r, 8);
+        let mut operators = plan::random(r, &query);
+        if r.chance(1, 2) {
+            plan::disturb(r, &query, &mut operators);
+        }
+        let mut plan = plan::file(&operators);
+        if r.chance(1, 4) {
+            disturb(r, &mut query);
+        }
+        let mut query = query.file();
+        if r.chance(1, 6) {
+            r.damage(&mut query);
+        }
+        if r.chance(1, 4) {
+            r.damage(&mut plan);
+        }
+        seen[compare(r, &query, &plan) as usize] += 1;
+    });
+    assert!((6..19).chain([0]).all(|k| seen[k] > 50), "each answer is met often: {seen:?}");
+}
+
+#[test]
+fn every_bit_and_every_length() {
+    each(0..60, |r| {
+        let query = Query::random(r, 8);
+        let plan = plan::file(&plan::random(r, &query));
+        let query = query.file();
+        for bit in 0..8 * query.len() {
+            let mut query = query.clone();
+            query[bit / 8] ^= 128 >> (bit % 8);
+            compare(r, &query, &plan);
+        }
+        for bit in 0..8 * plan.len() {
+            let mut plan = plan.clone();
+            plan[bit / 8] ^= 128 >> (bit % 8);
+            compare(r, &query, &plan);
+        }
+        for len in 0..query.len() {
+            compare(r, &query[..len], &plan);
+        }
+        for len in 0..plan.len() {
+            compare(r, &query, &plan[..len]);
+        }
+    });
+}
+
+#[test]
+fn limits_of_a_query() {
+    each(0..1, |r| {
+        let pairs: Vec<(usize, usize)> = (0..8).flat_map(|a| (0..8).filter(move |&b| a != b).map(move |b| (a, b))).collect();
+        let plan = plan::file(&[plan::Operator::Scan(0)]);
+        for (n, m, want) in [(8, 7, 18), (8, 24, 18), (8, 25, 8), (8, 0, 8), (9, 8, 8), (2, 1, 0), (1, 1, 8), (0, 1, 8)] {
+            let edges = pairs.iter().take(m).map(|&(a, b)| (a, b, 1)).collect();
+            let query = Query { labels: vec![0; n], edges };
+            assert_eq!(compare(r, &query.file(), &plan), want, "{n} vertices, {m} edges");
+        }
+    });
+}
+
+#[test]
+fn bytes_of_any_kind() {
+    each(0..40_000, |r| {
+        let file = |most: usize| -> Vec<u8> { (0..r.below(most)).map(|_| r.next() as u8).collect() };
+        let (query, plan) = (file(60), file(12));
+        compare(r, &query, &plan);
+        let query = Query::random(r, 8).file();
+        compare(r, &query, &plan);
+    });
+}

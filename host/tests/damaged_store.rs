@@ -1,0 +1,116 @@
+//! Refusal 19: stores damaged word by word, against a judge that reads the graph off the words and makes them anew.
+mod judge;
+
+use judge::calls::{self, Input};
+use judge::graph::Graph;
+use judge::matcher::Matcher;
+use judge::plan::{self, Operator};
+use judge::query::Query;
+use judge::random::{each, Random};
+use judge::rules;
+
+/// Runs over these words with all the room it needs; answers whether they were accepted.
+fn compare(r: &Random, words: &[u32]) -> bool {
+    let query = Query::plain(3, &[(0, 1), (1, 2)]);
+    let operators = [Operator::Scan(0), Operator::Extend(2)];
+    let (file, plan) = (query.file(), plan::file(&operators));
+    let input = Input { store: words, query: &file, plan: &plan, cache: false };
+    match Graph::of_store(words) {
+        None => {
+            let scratch = r.below(40);
+            assert_eq!(calls::run(r, &input, scratch, 40).refusal, 19, "{words:?}");
+            false
+        }
+        Some(graph) => {
+            let want = rules::run(&Matcher::new(&graph), &query, &operators, false, 1 << 20).unwrap();
+            let got = calls::run(r, &input, want.need, want.rows.len());
+            assert_eq!((got.refusal, got.list), (0, want.rows), "{words:?}");
+            true
+        }
+    }
+}
+
+/// Every word of a store, changed in each of many ways.
+#[test]
+fn word_by_word() {
+    let mut seen = [0; 2];
+    each(0..150, |r| {
+        let store = Graph::random(r, 6).store();
+        assert!(compare(r, &store));
+        for at in 0..store.len() {
+            let word = store[at];
+            let mut values = vec![0, 1, 65_535, 65_536, 16_777_216, u32::MAX, word.wrapping_add(1), word.wrapping_sub(1)];
+            values.extend([word.wrapping_add(65_536), word.wrapping_sub(65_536), r.next() as u32, r.next() as u32 % 8]);
+            values.extend((0..32).map(|bit| word ^ 1 << bit));
+            for value in values {
+                let mut damaged = store.clone();
+                damaged[at] = value;
+                seen[usize::from(compare(r, &damaged))] += 1;
+            }
+        }
+        for words in 0..store.len() {
+            assert!(!compare(r, &store[..words]), "a store cut to {words} words");
+        }
+    });
+    assert!(seen[0] > 50_000 && seen[1] > 1_000, "{seen:?}");
+}
+
+/// Several words at once: swapped, copied, changed together.
+#[test]
+fn several_words() {
+    let mut seen = [0; 2];
+    each(0..60_000, |r| {
+        let mut store = Graph::random(r, 7).store();
+        for _ in 0..1 + r.below(3) {
+            let (i, j) = (r.below(store.len()), r.below(store.len()));
+            match r.below(4) {
+                0 => store.swap(i, j),
+                1 => store[i] = store[j],
+                2 => store[i] = store[i].wrapping_add(1),
+                _ => store[i] = store[i].wrapping_sub(1),
+            }
+        }
+        seen[usize::from(compare(r, &store))] += 1;
+    });
+    assert!(seen[0] > 20_000 && seen[1] > 1_000, "{seen:?}");
+}
+
+/// Sides that are each in order and do not mirror each other: on the backward side one edge has another label or source.
+#[test]
+fn sides_that_do_not_mirror() {
+    let mut refused = 0;
+    each(0..20_000, |r| {
+        let one = Graph::random(r, 6);
+        let (n, m) = (one.vertices(), one.edges.len());
+        if m == 0 {
+            return;
+        }
+        let mut edges = one.edges.clone();
+        let edge = &mut edges[r.below(m)];
+        match r.below(3) {
+            0 => edge.1 = 1 + r.below(4) as u8,
+            1 => edge.0 = r.below(n) as u16,
+            _ => edge.2 = r.below(n) as u16,
+        }
+        let other = Graph::new(one.labels.clone(), edges);
+        if other.edges.len() < m || other.edges == one.edges {
+            return;
+        }
+        let mut store = one.store();
+        let backward = 3 + 2 * n + m;
+        store[backward..].copy_from_slice(&other.store()[backward..]);
+        assert!(!compare(r, &store));
+        refused += 1;
+    });
+    assert!(refused > 5_000, "{refused}");
+}
+
+#[test]
+fn words_of_any_kind() {
+    each(0..20_000, |r| {
+        let count = r.below(60);
+        let mut words = r.words(count);
+        words.iter_mut().for_each(|word| *word %= [2, 4, 8, 65_540, 131_074, u32::MAX][r.below(6)]);
+        compare(r, &words);
+    });
+}

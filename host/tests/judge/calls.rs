@@ -1,0 +1,178 @@
+//! Calls of the static library with buffers that stand between guard words. Whatever the answer, each call is held to what is
+//! true of all: what is lent for reading and what is not lent stays as it was; refused, every number is 0.
+use super::random::Random;
+use trace::sys;
+
+const GUARD: usize = 12;
+
+/// Contents between guards of arbitrary values.
+struct Lent<T> {
+    all: Vec<T>,
+    before: Vec<T>,
+}
+
+impl<T: Copy + PartialEq + std::fmt::Debug> Lent<T> {
+    fn new(contents: &[T], mut guard: impl FnMut() -> T) -> Lent<T> {
+        let mut all: Vec<T> = (0..GUARD).map(|_| guard()).collect();
+        all.extend_from_slice(contents);
+        all.extend((0..GUARD).map(|_| guard()));
+        Lent { before: all.clone(), all }
+    }
+
+    fn len(&self) -> usize {
+        self.all.len() - 2 * GUARD
+    }
+
+    fn pointer(&self) -> *const T {
+        self.all[GUARD..].as_ptr()
+    }
+
+    fn pointer_mut(&mut self) -> *mut T {
+        self.all[GUARD..].as_mut_ptr()
+    }
+
+    fn assert_untouched(&self, what: &str) {
+        assert_eq!(self.all, self.before, "{what} is changed");
+    }
+
+    /// The contents after the call; nothing around them is changed.
+    fn contents(self, what: &str) -> Vec<T> {
+        let end = GUARD + self.len();
+        assert_eq!(self.all[..GUARD], self.before[..GUARD], "words before the {what} are changed");
+        assert_eq!(self.all[end..], self.before[end..], "words after the {what} are changed");
+        self.all[GUARD..end].to_vec()
+    }
+}
+
+fn bytes(r: &Random, contents: &[u8]) -> Lent<u8> {
+    Lent::new(contents, || r.next() as u8)
+}
+
+fn words(r: &Random, contents: &[u32]) -> Lent<u32> {
+    Lent::new(contents, || r.next() as u32)
+}
+
+/// The numbers that a call gives, each with arbitrary numbers before it and around it.
+struct Numbers<const N: usize>(Lent<u64>);
+
+impl<const N: usize> Numbers<N> {
+    fn new(r: &Random) -> Self {
+        let before: Vec<u64> = (0..N).map(|_| r.next()).collect();
+        Numbers(Lent::new(&before, || r.next()))
+    }
+
+    fn pointers(&mut self) -> [*mut u64; N] {
+        let first = self.0.pointer_mut();
+        // SAFETY: the contents are N numbers.
+        std::array::from_fn(|i| unsafe { first.add(i) })
+    }
+
+    fn after(self, refusal: u32) -> [u64; N] {
+        let numbers: [u64; N] = self.0.contents("numbers").try_into().unwrap();
+        assert!(refusal == 0 || numbers == [0; N], "refused with {refusal}, and the numbers are {numbers:?}");
+        numbers
+    }
+}
+
+#[derive(Debug, PartialEq, Eq)]
+pub struct Loaded {
+    pub refusal: u32,
+    pub vertices: u64,
+    pub edges: u64,
+}
+
+/// Load into a store of these words; the store afterwards is handed back.
+pub fn load(r: &Random, file: &[u8], store: &mut Vec<u32>) -> Loaded {
+    let lent_file = bytes(r, file);
+    let mut lent = words(r, store);
+    let mut numbers = Numbers::<2>::new(r);
+    let [vertices, edges] = numbers.pointers();
+    // SAFETY: every pointer is of a buffer of the length given, and all buffers are distinct.
+    let refusal = unsafe {
+        sys::trace_load(lent_file.pointer(), lent_file.len(), lent.pointer_mut(), lent.len(), vertices, edges)
+    };
+    lent_file.assert_untouched("file");
+    if refusal != 0 {
+        lent.assert_untouched("store");
+    }
+    *store = lent.contents("store");
+    let [vertices, edges] = numbers.after(refusal);
+    Loaded { refusal, vertices, edges }
+}
+
+/// Check plan: the refusal and the operator count.
+pub fn check_plan(r: &Random, query: &[u8], plan: &[u8]) -> (u32, u64) {
+    let (query, plan) = (bytes(r, query), bytes(r, plan));
+    let mut numbers = Numbers::<1>::new(r);
+    let [operators] = numbers.pointers();
+    // SAFETY: as above.
+    let refusal = unsafe {
+        sys::trace_check_plan(query.pointer(), query.len(), plan.pointer(), plan.len(), operators)
+    };
+    query.assert_untouched("query");
+    plan.assert_untouched("plan");
+    (refusal, numbers.after(refusal)[0])
+}
+
+pub struct Input<'a> {
+    pub store: &'a [u32],
+    pub query: &'a [u8],
+    pub plan: &'a [u8],
+    pub cache: bool,
+}
+
+#[derive(Debug, PartialEq, Eq)]
+pub struct Ran {
+    pub refusal: u32,
+    pub rows: u64,
+    pub cost: u64,
+    pub build: u64,
+    pub probe: u64,
+    /// The list's rows: n words for each; the words after them are as they were.
+    pub list: Vec<u32>,
+}
+
+/// Run in scratch and list of these lengths, which hold arbitrary words. The scratch is zero afterwards.
+pub fn run(r: &Random, input: &Input, scratch: usize, list: usize) -> Ran {
+    let store = words(r, input.store);
+    let (query, plan) = (bytes(r, input.query), bytes(r, input.plan));
+    let contents = r.words(scratch);
+    let mut scratch = words(r, &contents);
+    let contents = r.words(list);
+    let mut list = words(r, &contents);
+    let mut numbers = Numbers::<4>::new(r);
+    let [rows, cost, build, probe] = numbers.pointers();
+    // SAFETY: as above.
+    let refusal = unsafe {
+        sys::trace_run(
+            store.pointer(),
+            store.len(),
+            query.pointer(),
+            query.len(),
+            plan.pointer(),
+            plan.len(),
+            input.cache,
+            scratch.pointer_mut(),
+            scratch.len(),
+            list.pointer_mut(),
+            list.len(),
+            rows,
+            cost,
+            build,
+            probe,
+        )
+    };
+    store.assert_untouched("store");
+    query.assert_untouched("query");
+    plan.assert_untouched("plan");
+    assert!(scratch.contents("scratch").iter().all(|&word| word == 0), "the scratch is not zero");
+    if refusal != 0 {
+        list.assert_untouched("list");
+    }
+    let mut after = list.contents("list");
+    let [rows, cost, build, probe] = numbers.after(refusal);
+    let end = rows as usize * usize::from(input.query.first().map_or(0, |byte| byte >> 4));
+    assert_eq!(after[end..], contents[end..], "the list is changed past its last row");
+    after.truncate(end);
+    Ran { refusal, rows, cost, build, probe, list: after }
+}

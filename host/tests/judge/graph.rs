@@ -1,0 +1,117 @@
+//! Graphs, their files, and their stores.
+use super::bits::{pack, Reader};
+use super::random::Random;
+
+/// An edge: source, label, target.
+pub type Edge = (u16, u8, u16);
+
+#[derive(Clone, Debug, PartialEq, Eq)]
+pub struct Graph {
+    pub labels: Vec<u16>,
+    pub edges: Vec<Edge>,
+}
+
+impl Graph {
+    pub fn vertices(&self) -> usize {
+        self.labels.len()
+    }
+
+    pub fn new(labels: Vec<u16>, mut edges: Vec<Edge>) -> Graph {
+        edges.sort();
+        edges.dedup();
+        Graph { labels, edges }
+    }
+
+    /// The file, as the edges stand: sorted or not.
+    pub fn file(&self) -> Vec<u8> {
+        let mut fields = vec![(self.labels.len() as u64, 16), (self.edges.len() as u64, 20)];
+        fields.extend(self.labels.iter().map(|&l| (u64::from(l), 16)));
+        for &(source, label, target) in &self.edges {
+            fields.extend([(u64::from(source), 16), (u64::from(label), 8), (u64::from(target), 16)]);
+        }
+        pack(fields)
+    }
+
+    /// Refusals 1 to 4, or the graph.
+    pub fn read(file: &[u8]) -> Result<Graph, u32> {
+        let mut reader = Reader::new(file);
+        if file.len() < 5 {
+            return Err(1);
+        }
+        let (n, m) = (reader.field(16).unwrap(), reader.field(20).unwrap());
+        if (file.len() as u64) < 5 + 2 * n + 5 * m {
+            return Err(1);
+        }
+        let labels = (0..n).map(|_| reader.field(16).unwrap() as u16).collect();
+        let mut field = |width| reader.field(width).unwrap();
+        let edges: Vec<Edge> = (0..m).map(|_| (field(16) as u16, field(8) as u8, field(16) as u16)).collect();
+        if !reader.ends() {
+            return Err(2);
+        }
+        for (i, &edge) in edges.iter().enumerate() {
+            let (source, label, target) = edge;
+            if u64::from(source) >= n || u64::from(target) >= n || label == 0 {
+                return Err(3);
+            }
+            if i > 0 && edges[i - 1] >= edge {
+                return Err(4);
+            }
+        }
+        Ok(Graph { labels, edges })
+    }
+
+    pub fn store_size(&self) -> usize {
+        3 * self.labels.len() + 2 * self.edges.len() + 4
+    }
+
+    /// The words that the graph's file loads to.
+    pub fn store(&self) -> Vec<u32> {
+        let mut words = vec![self.labels.len() as u32, self.edges.len() as u32];
+        words.extend(self.labels.iter().map(|&l| u32::from(l)));
+        let forward = self.edges.iter().map(|&(s, l, t)| (s, l, t)).collect();
+        let backward = self.edges.iter().map(|&(s, l, t)| (t, l, s)).collect();
+        for mut side in [forward, backward] as [Vec<Edge>; 2] {
+            side.sort();
+            words.extend((0..=self.labels.len()).map(|v| side.partition_point(|e| usize::from(e.0) < v) as u32));
+            words.extend(side.iter().map(|&(_, l, far)| u32::from(l) * 65536 + u32::from(far)));
+        }
+        words
+    }
+
+    /// The graph of a store, if some accepted file loads to it: the forward lists say what the graph is, its file must be
+    /// accepted, and its words must be these.
+    pub fn of_store(words: &[u32]) -> Option<Graph> {
+        let n = usize::try_from(*words.first()?).ok()?;
+        let m = usize::try_from(*words.get(1)?).ok()?;
+        if n >= 1 << 16 || m >= 1 << 20 {
+            return None;
+        }
+        let labels = words.get(2..2 + n)?.iter().map(|&l| u16::try_from(l).ok()).collect::<Option<Vec<_>>>()?;
+        let offsets = words.get(2 + n..3 + 2 * n)?;
+        let entries = words.get(3 + 2 * n..3 + 2 * n + m)?;
+        let mut edges = Vec::new();
+        for (v, ends) in offsets.windows(2).enumerate() {
+            for &entry in entries.get(ends[0] as usize..ends[1] as usize)? {
+                edges.push((v as u16, u8::try_from(entry / 65536).ok()?, (entry % 65536) as u16));
+            }
+        }
+        let graph = Graph::read(&Graph { labels, edges }.file()).ok()?;
+        let store = graph.store();
+        (words.len() >= store.len() && words[..store.len()] == store).then_some(graph)
+    }
+
+    /// A graph with up to so many vertices, dense or sparse, with few labels or many, sometimes with a hub.
+    pub fn random(r: &Random, most: usize) -> Graph {
+        let n = r.below(most + 1);
+        let labels = (0..n).map(|_| r.below(3) as u16).collect();
+        let kinds = if r.chance(1, 5) { 255 } else { 1 + r.below(3) };
+        let hub = r.chance(1, 3).then(|| r.below(n.max(1)));
+        let count = if n == 0 { 0 } else { r.below(n * (1 + r.below(10)) + 2) };
+        let end = |r: &Random| match hub {
+            Some(v) if r.chance(1, 3) => v as u16,
+            _ => r.below(n) as u16,
+        };
+        let edges = (0..count).map(|_| (end(r), 1 + r.below(kinds) as u8, end(r))).collect();
+        Graph::new(labels, edges)
+    }
+}

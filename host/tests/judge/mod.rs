@@ -1,0 +1,12 @@
+//! An independent judge of the engine: files read bit by bit, matches found by backtracking over a set of edges, rows in the
+//! order that the rules give, and all of it slow. It shares nothing with the engine but the document that both follow.
+#![allow(dead_code)]
+
+pub mod bits;
+pub mod calls;
+pub mod graph;
+pub mod matcher;
+pub mod plan;
+pub mod query;
+pub mod random;
+pub mod rules;

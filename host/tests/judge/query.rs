@@ -1,0 +1,107 @@
+//! Queries and their files.
+use super::bits::{pack, Reader};
+use super::random::Random;
+
+/// An edge: from, to, label.
+pub type QueryEdge = (usize, usize, u8);
+
+#[derive(Clone, Debug, PartialEq, Eq)]
+pub struct Query {
+    pub labels: Vec<u16>,
+    pub edges: Vec<QueryEdge>,
+}
+
+impl Query {
+    pub fn new(labels: Vec<u16>, mut edges: Vec<QueryEdge>) -> Query {
+        edges.sort();
+        edges.dedup();
+        Query { labels, edges }
+    }
+
+    /// Unlabelled, with edges of label 1.
+    pub fn plain(n: usize, pairs: &[(usize, usize)]) -> Query {
+        Query::new(vec![0; n], pairs.iter().map(|&(a, b)| (a, b, 1)).collect())
+    }
+
+    pub fn vertices(&self) -> usize {
+        self.labels.len()
+    }
+
+    pub fn file(&self) -> Vec<u8> {
+        let mut fields = vec![(self.labels.len() as u64, 4), (self.edges.len() as u64, 5)];
+        fields.extend(self.labels.iter().map(|&l| (u64::from(l), 16)));
+        for &(from, to, label) in &self.edges {
+            fields.extend([(from as u64, 3), (to as u64, 3), (u64::from(label), 8)]);
+        }
+        pack(fields)
+    }
+
+    /// Refusals 6 to 11, or the query.
+    pub fn read(file: &[u8]) -> Result<Query, u32> {
+        if file.len() < 2 {
+            return Err(6);
+        }
+        let mut reader = Reader::new(file);
+        let (n, m) = (reader.field(4).unwrap() as usize, reader.field(5).unwrap());
+        if !(2..=8).contains(&n) || !(1..=24).contains(&m) {
+            return Err(8);
+        }
+        let labels = (0..n).map(|_| reader.field(16).map(|l| l as u16)).collect::<Option<Vec<_>>>().ok_or(6u32)?;
+        let mut edge = || Some((reader.field(3)? as usize, reader.field(3)? as usize, reader.field(8)? as u8));
+        let edges = (0..m).map(|_| edge()).collect::<Option<Vec<_>>>().ok_or(6u32)?;
+        if !reader.ends() {
+            return Err(7);
+        }
+        for (i, &edge) in edges.iter().enumerate() {
+            let (from, to, label) = edge;
+            if from >= n || to >= n || from == to || label == 0 {
+                return Err(9);
+            }
+            if i > 0 && edges[i - 1] >= edge {
+                return Err(10);
+            }
+        }
+        let query = Query { labels, edges };
+        if query.connected() {
+            Ok(query)
+        } else {
+            Err(11)
+        }
+    }
+
+    /// Whether, ignoring direction, every vertex is reached from vertex 0: parts are merged edge by edge.
+    fn connected(&self) -> bool {
+        let mut part: Vec<usize> = (0..self.vertices()).collect();
+        for &(a, b, _) in &self.edges {
+            let (one, two) = (part[a], part[b]);
+            part.iter_mut().for_each(|p| *p = if *p == one { two } else { *p });
+        }
+        part.iter().all(|&p| p == part[0])
+    }
+
+    /// Whether a query edge joins v to some vertex of a set.
+    pub fn touches(&self, v: usize, set: &[usize]) -> bool {
+        self.edges.iter().any(|&(a, b, _)| a == v && set.contains(&b) || b == v && set.contains(&a))
+    }
+
+    /// A connected query: a tree, and some edges more; labelled or not; seldom with many vertices.
+    pub fn random(r: &Random, most: usize) -> Query {
+        let n = 2 + r.below(if r.chance(1, 4) { most - 1 } else { 3.min(most - 1) });
+        let kinds = if r.chance(1, 2) { 1 } else { 3 };
+        let labelled = r.chance(1, 3);
+        let labels = (0..n).map(|_| if labelled && r.chance(1, 2) { 1 + r.below(2) as u16 } else { 0 }).collect();
+        let mut edges = Vec::new();
+        for v in 1..n {
+            let u = r.below(v);
+            let (from, to) = if r.chance(1, 2) { (u, v) } else { (v, u) };
+            edges.push((from, to, 1 + r.below(kinds) as u8));
+        }
+        for _ in 0..r.below(n + 2) {
+            let (from, to) = (r.below(n), r.below(n));
+            if from != to {
+                edges.push((from, to, 1 + r.below(kinds) as u8));
+            }
+        }
+        Query::new(labels, edges)
+    }
+}

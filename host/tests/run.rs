@@ -1,0 +1,186 @@
+//! Run against matches found by backtracking, and the rules on order, cost and need.
+mod judge;
+
+use judge::calls::{self, Input, Ran};
+use judge::graph::Graph;
+use judge::matcher::Matcher;
+use judge::plan;
+use judge::query::Query;
+use judge::random::{each, Random};
+use judge::rules;
+
+/// A graph, a query, an accepted plan and what its run answers.
+struct Case {
+    graph: Graph,
+    query: Query,
+    plan: Vec<u8>,
+    cache: bool,
+    want: rules::Answer,
+}
+
+impl Case {
+    /// None where a result has more than `most` rows.
+    fn random(r: &Random, graph: Graph, vertices: usize, most: usize) -> Option<Case> {
+        let query = Query::random(r, vertices);
+        let operators = plan::random(r, &query);
+        let cache = r.chance(1, 2);
+        let want = rules::run(&Matcher::new(&graph), &query, &operators, cache, most)?;
+        Some(Case { graph, query, plan: plan::file(&operators), cache, want })
+    }
+
+    /// The same from scratch and list of these lengths: refused just where they are too short.
+    fn compare(&self, r: &Random, scratch: usize, list: usize) -> u32 {
+        let extra = r.below(4);
+        let store = [self.graph.store(), r.words(extra)].concat();
+        let input = Input { store: &store, query: &self.query.file(), plan: &self.plan, cache: self.cache };
+        let refusal = match () {
+            _ if scratch < self.want.need => 20,
+            _ if list < self.want.rows.len() => 21,
+            _ => 0,
+        };
+        let got = calls::run(r, &input, scratch, list);
+        let want = match refusal {
+            0 => {
+                let rules::Answer { rows, count, cost, build, probe, .. } = self.want.clone();
+                Ran { refusal, rows: count as u64, cost, build, probe, list: rows }
+            }
+            _ => Ran { refusal, rows: 0, cost: 0, build: 0, probe: 0, list: Vec::new() },
+        };
+        assert_eq!(got, want, "{:?} {:?} {:?}", self.graph, self.query, self.plan);
+        refusal
+    }
+
+    /// Lengths around the need, and any others.
+    fn compare_lengths(&self, r: &Random) {
+        let (need, rows) = (self.want.need, self.want.rows.len());
+        self.compare(r, need, rows);
+        self.compare(r, need.saturating_sub(1), rows);
+        self.compare(r, need, rows.saturating_sub(1));
+        let (more, most) = (r.below(20), r.below(20));
+        self.compare(r, need + more, rows + most);
+        let (scratch, list) = (r.below(need + 2), r.below(rows + 2));
+        self.compare(r, scratch, list);
+    }
+}
+
+#[test]
+fn small_graphs() {
+    let (mut rows, mut joins, mut skipped) = (0, 0, 0);
+    each(0..20_000, |r| {
+        let graph = Graph::random(r, 9);
+        match Case::random(r, graph, 8, 3_000) {
+            Some(case) => {
+                case.compare_lengths(r);
+                rows += case.want.count;
+                joins += usize::from(case.want.build + case.want.probe > 0);
+            }
+            None => skipped += 1,
+        }
+    });
+    assert!(rows > 100_000 && joins > 2_000 && skipped < 400, "{rows} rows, {joins} joins, {skipped} skipped");
+}
+
+#[test]
+fn middling_graphs() {
+    let (mut rows, mut skipped) = (0, 0);
+    each(0..600, |r| {
+        let graph = Graph::random(r, 300);
+        match Case::random(r, graph, 5, 30_000) {
+            Some(case) => {
+                case.compare_lengths(r);
+                rows += case.want.count;
+            }
+            None => skipped += 1,
+        }
+    });
+    assert!(rows > 100_000 && skipped < 100, "{rows} rows, {skipped} skipped");
+}
+
+/// Thousands of edges, with vertices of many neighbours, so that lists are sought in by blocks and by steps that double.
+#[test]
+fn large_graphs() {
+    let mut rows = 0;
+    each(0..40, |r| {
+        let n = 1_000 + r.below(3_000);
+        let kinds = 1 + r.below(3);
+        let end = |r: &Random| (n as f64 * (r.below(1 << 20) as f64 / (1u64 << 20) as f64).powi(3)) as u16;
+        let edges = (0..4 * n).map(|_| (end(r), 1 + r.below(kinds) as u8, end(r))).collect();
+        let graph = Graph::new(vec![0; n], edges);
+        let triangle = Query::new(vec![0; 3], vec![(0, 1, 1), (0, 2, 1), (1, 2, 1 + r.below(kinds) as u8)]);
+        let operators = plan::random(r, &triangle);
+        let cache = r.chance(1, 2);
+        let Some(want) = rules::run(&Matcher::new(&graph), &triangle, &operators, cache, 1 << 21) else { return };
+        rows += want.count;
+        Case { graph, query: triangle, plan: plan::file(&operators), cache, want }.compare_lengths(r);
+    });
+    assert!(rows > 100_000, "{rows} rows");
+}
+
+/// Every scratch and every list length from 0 to beyond the need.
+#[test]
+fn every_length() {
+    let mut seen = [0; 22];
+    each(0..400, |r| {
+        let graph = Graph::random(r, 6);
+        let Some(case) = Case::random(r, graph, 5, 40) else { return };
+        for scratch in 0..case.want.need + 4 {
+            let more = r.below(3);
+            seen[case.compare(r, scratch, case.want.rows.len() + more) as usize] += 1;
+        }
+        for list in 0..case.want.rows.len() + 4 {
+            let more = r.below(3);
+            seen[case.compare(r, case.want.need + more, list) as usize] += 1;
+        }
+    });
+    assert!(seen[0] > 1_000 && seen[20] > 1_000 && seen[21] > 1_000, "{seen:?}");
+}
+
+/// Damaged queries and plans are refused as Check plan refuses them, before the store is looked at.
+#[test]
+fn refused_files() {
+    let mut seen = [0; 22];
+    each(0..10_000, |r| {
+        let query = Query::random(r, 6);
+        let mut operators = plan::random(r, &query);
+        if r.chance(1, 2) {
+            plan::disturb(r, &query, &mut operators);
+        }
+        let (mut query, mut plan) = (query.file(), plan::file(&operators));
+        if r.chance(1, 3) {
+            r.damage(&mut query);
+        }
+        if r.chance(1, 3) {
+            r.damage(&mut plan);
+        }
+        let refusal = match Query::read(&query).and_then(|query| plan::read(&query, &plan)) {
+            Err(refusal) => refusal,
+            Ok(_) => 19,
+        };
+        let count = r.below(40);
+        let store = r.words(count);
+        let (scratch, list) = (r.below(30), r.below(30));
+        let got = calls::run(r, &Input { store: &store, query: &query, plan: &plan, cache: true }, scratch, list);
+        assert_eq!(got.refusal, refusal);
+        seen[refusal as usize] += 1;
+    });
+    assert!((6..20).filter(|&k| seen[k] > 0).count() >= 12, "{seen:?}");
+}
+
+/// Scratch and list past 1,073,741,824 words are left alone. Takes 9 GB: run with `--ignored`.
+#[test]
+#[ignore]
+fn lengths_past_the_counted_one() {
+    let graph = Graph::new(vec![0; 4], vec![(0, 1, 1), (0, 1, 2), (1, 1, 2), (1, 1, 3), (2, 1, 3)]);
+    let query = Query::plain(3, &[(0, 1), (0, 2), (1, 2)]);
+    let plan = plan::file(&[plan::Operator::Scan(0), plan::Operator::Extend(2)]);
+    let mut scratch = vec![0; trace::MAX_WORDS + 8];
+    let mut list = vec![0; trace::MAX_WORDS + 8];
+    scratch[5] = 7;
+    scratch[trace::MAX_WORDS..].fill(9);
+    list[6..12].fill(8);
+    let answer = trace::run(&graph.store(), &query.file(), &plan, trace::Cache::On, &mut scratch, &mut list).unwrap();
+    assert_eq!((answer.rows, answer.cost), (2, 13));
+    assert!(scratch[..trace::MAX_WORDS].iter().all(|&word| word == 0));
+    assert!(scratch[trace::MAX_WORDS..].iter().all(|&word| word == 9));
+    assert_eq!(list[..12], [0, 1, 2, 1, 2, 3, 8, 8, 8, 8, 8, 8]);
+}
