@@ -1,7 +1,7 @@
 -- The entries of one label in an ascending list: a search cuts the words below a number from the others, and two of them cut
 -- out what a label covers. Assumes nothing.
 use mathlib.Core.Path.{_≡_, refl, sym, _∙_, ap}
-use mathlib.Core.Bool.{true, not, _&&_}
+use mathlib.Core.Bool.{Bool, true, not, _&&_}
 use mathlib.Core.List.{List, [], _∷_, _++_, map-id}
 use Prim.Native.Nat.{ℕ, _+_, _-_, _*_, _/_, _≤_, _<_, zero-le}
 use native.Mathlib.Nat.{zero-add}
@@ -39,6 +39,22 @@ module _ (s : List ℕ) (up : ascending s ≡ true) (x r : ℕ) (ends : r ≡ fi
       take-all (length s - r) (drop r s) (rw length-drop (omega arith))
       ∙ ap (drop r) split ∙ drop-at (keep (λ (k : ℕ). ltb k x) s) (keep (λ (k : ℕ). not (ltb k x)) s) r size
 
+-- Where the last word is below x all are, and where the first is not none is. Of an empty list both are so.
+module _ (s : List ℕ) (up : ascending s ≡ true) (x : ℕ) where
+  pub all-below : 0 < length s → getD s (length s - 1) 0 < x → s ≡ keep (λ (k : ℕ). ltb k x) s
+  all-below h l =
+      sym (take-all (firstFrom s 0 x) s (omega (arith, below-first s up 0 x (length s - 1) zero-le (omega arith) l)))
+      ∙ take-below s up x (firstFrom s 0 x) refl
+
+  pub none-below : 0 < length s → x ≤ getD s 0 0 → s ≡ keep (λ (k : ℕ). not (ltb k x)) s
+  none-below h l =
+      sym (take-all (length s - 0) s (omega arith)) ∙ drop-below s up x 0 (omega (arith, above-first s up 0 x 0 zero-le h l))
+
+pub keep-empty : (p : ℕ → Bool) (s : List ℕ) → length s ≡ 0 → s ≡ keep p s
+unfolding keep
+keep-empty p [] h = refl
+keep-empty p (k ∷ s) h = absurd (omega arith)
+
 -- A label covers the entries from its first to the next label's.
 covers-span : (l k : ℕ) → (not (ltb k (l * 65536)) && ltb k (l * 65536 + 65536)) ≡ covers l (k / 65536)
 unfolding covers
@@ -59,22 +75,10 @@ cut-covers l s =
     keep-keep (λ (k : ℕ). ltb k (l * 65536 + 65536)) (λ (k : ℕ). not (ltb k (l * 65536))) s
     ∙ keep-ext _ (λ (k : ℕ). covers l (k / 65536)) s (covers-span l)
 
--- The whole list is covered where it is empty, and where its first word and its last one are covered.
-pub none-covered : (l : ℕ) (s : List ℕ) → length s ≡ 0 → s ≡ keep (λ (k : ℕ). covers l (k / 65536)) s
-unfolding keep
-none-covered l [] h = refl
-none-covered l (k ∷ s) h = absurd (omega arith)
-
+-- The whole list is covered where its first word and its last one are.
 pub all-covered : (l : ℕ) (s : List ℕ) → ascending s ≡ true → 0 < length s
     → l * 65536 ≤ getD s 0 0 → getD s (length s - 1) 0 < l * 65536 + 65536 → s ≡ keep (λ (k : ℕ). covers l (k / 65536)) s
 all-covered l s up h a b =
-    sym (take-all end s (omega (arith, below-first s up 0 (l * 65536 + 65536) (length s - 1) zero-le (omega arith) b)))
-    ∙ take-below s up (l * 65536 + 65536) end refl
-    ∙ ap (keep (λ (k : ℕ). ltb k (l * 65536 + 65536))) (sym (take-all (length s - 0) s (omega arith)) ∙ drop-below s up (l * 65536) 0 start)
+    all-below s up (l * 65536 + 65536) h b
+    ∙ ap (keep (λ (k : ℕ). ltb k (l * 65536 + 65536))) (none-below s up (l * 65536) h a)
     ∙ cut-covers l s
-  where
-    end : ℕ
-    end = firstFrom s 0 (l * 65536 + 65536)
-
-    start : 0 ≡ firstFrom s 0 (l * 65536)
-    start = omega (arith, above-first s up 0 (l * 65536) 0 zero-le h a)
