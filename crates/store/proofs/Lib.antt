@@ -9,7 +9,6 @@ pub mod KeyLists
 pub mod Offsets
 pub mod Loops
 pub mod Counting
-pub mod Found
 pub mod Fits
 pub mod Spelt
 pub mod Tested

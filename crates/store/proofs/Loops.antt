@@ -1,6 +1,6 @@
 -- The loops of the store check: a test of the whole list is the test of what is left of it, and fails where one word fails.
 -- Each invariant has the laws of its start, its step, a failed test and its end. Assumes nothing.
-use mathlib.Core.Path.{_≡_, refl, sym, _∙_, ap}
+use mathlib.Core.Path.{_≡_, refl, sym, _∙_, ap, fun-ext}
 use mathlib.Core.Bool.{Bool, true, false, _&&_, and-false}
 use mathlib.Core.List.{List, [], _∷_}
 use Prim.Native.Nat.{ℕ, _+_, _%_, _≤_, _<_, zero-le}
@@ -10,10 +10,10 @@ use lib.Dec.{eqb, ltb}
 use lib.ListN.{length, getD, drop, drop-of-length-le}
 use lib.Seq.{drop-cons}
 use borrow.Author.Tests.{eq-eqb, ne-eqb, lt-ltb, le-ltb, le-leb, lt-leb}
-use Rattle.lists.specs.Lists.{range, all, ascendsFrom}
-use Rattle.lists.proofs.Tests.{clash, fails, and-both}
+use Rattle.lists.specs.Lists.{bit, range, all, any, ascendsFrom}
+use Rattle.lists.proofs.Tests.{clash, fails, and-both, eqb-sym}
 use Rattle.lists.proofs.All.{all-at, all-append, all-getD}
-use Rattle.store.specs.Check.{unless, risesTo, offsetsFit, listFits}
+use Rattle.store.specs.Check.{unless, member, risesTo, offsetsFit, listFits}
 
 -- ---- refusals
 
@@ -31,6 +31,25 @@ answer-passes false e z = absurd (omega arith)
 pub answer-fails : (b : Bool) {r : ℕ} → r ≡ unless b → (r ≡ 0 → ⊥) → b ≡ false
 answer-fails true e h = absurd (h e)
 answer-fails false e h = refl
+
+-- The answer to a test is told by its bit, as that of a search for a word.
+bit-refused : (b : Bool) {r : ℕ} → r ≡ bit b → r ≡ 0 → 19 ≡ unless b
+bit-refused true e z = absurd (omega arith)
+bit-refused false e z = refl
+
+bit-passes : (b : Bool) {r : ℕ} → r ≡ bit b → (r ≡ 0 → ⊥) → 0 ≡ unless b
+bit-passes true e f = refl
+bit-passes false e f = absurd (f e)
+
+module _ (x : ℕ) (s : List ℕ) {r : ℕ} (e : r ≡ bit (any (eqb x) s)) where
+  is-member : any (eqb x) s ≡ member x s
+  is-member = ap (λ (t : ℕ → Bool). any t s) (fun-ext (eqb-sym x))
+
+  pub absent : r ≡ 0 → 19 ≡ unless (member x s)
+  absent z = bit-refused (any (eqb x) s) e z ∙ ap unless is-member
+
+  pub present : (r ≡ 0 → ⊥) → 0 ≡ unless (member x s)
+  present f = bit-passes (any (eqb x) s) e f ∙ ap unless is-member
 
 -- The answer to a test that failed is the answer to one that fails with it.
 pub answer-hands : (a b : Bool) {r : ℕ} → r ≡ unless a → (r ≡ 0 → ⊥) → (b ≡ true → a ≡ true) → r ≡ unless b

@@ -1,7 +1,7 @@
 // Refusal 19: whether some accepted graph file loads to a store. Each function answers 19 or 0.
 use crate::neighbours;
 use graph::Graph;
-use search::lower_bound;
+use search::has;
 ghost use mathlib.Core.Path.{_≡_};
 ghost use mathlib.Core.Bool.{true};
 ghost use Prim.Native.Nat.{ℕ, _+_, _≤_, _<_};
@@ -105,11 +105,7 @@ fn absent_fault(list: &[u32], x: u32) -> u32
     requires { ⌜ ascending (now list) ≡ true ⌝ }
     ensures { λ r. ⌜ r ≡ unless (member x (now (list .entry))) ⌝ }
 {
-    let i = lower_bound(list, x);
-    if i == list.len() {
-        return 19;
-    }
-    if list[i] != x {
+    if has(list, x) == 0 {
         return 19;
     }
     0
