@@ -13,12 +13,12 @@ use Rattle.lists.proofs.Tests.{and-l, and-both, not-true, not-false}
 use Rattle.lists.proofs.All.{length-range, all-range, all-at}
 use Rattle.lists.proofs.Count.{all-map}
 use Rattle.lists.proofs.Faults.{first-head, first-tail, first-cons, first-each, each-first, refuse-zero, zero-refuse}
+use Rattle.lists.proofs.Maps.{ascending-image, image-ascending}
 use Rattle.packed.specs.Field.{fieldAt, fillSet}
 use Rattle.packed.proofs.Laws.{field-lt}
 use Rattle.graph.specs.Graph.{forward, key}
 use Rattle.graph.specs.File.{graphOf, graphFault, vertexCount, edgeCount, edgeStart, edgeIn, fileSize, badEdge, ascends, edgeFault}
 use Rattle.graph.specs.Store.{wellFormed}
-use Rattle.graph.proofs.Maps.{ascending-image, image-ascending}
 use Rattle.graph.proofs.WellFormed.{WellFormed, fitting, formed-well}
 
 -- A file that Load accepts.

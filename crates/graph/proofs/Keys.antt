@@ -10,9 +10,9 @@ use Rattle.lists.specs.Lists.{bit, all, count, ascending, sort}
 use Rattle.lists.proofs.Tests.{iff, and-l, and-r, not-true}
 use Rattle.lists.proofs.Count.{count-map, count-under}
 use Rattle.lists.proofs.Sort.{ascending-once, sort-ascending, sort-ascends, count-sort}
+use Rattle.lists.proofs.Maps.{map-under}
 use Rattle.graph.specs.Graph.{Edge, Graph, Direction, forward, backward, near, far, entry, key}
 use Rattle.graph.specs.Store.{edgeOf, entries}
-use Rattle.graph.proofs.Maps.{map-under}
 use Rattle.graph.proofs.WellFormed.{Fitting, WellFormed, fitting, fitting-edge}
 
 -- The entry in a key, and the test that a key is one of an edge at v.

@@ -1,6 +1,4 @@
 -- Laws of the graph: its file, its store, and which stores accepted files load to.
-pub mod Maps
-pub mod Cut
 pub mod WellFormed
 pub mod Keys
 pub mod Parts

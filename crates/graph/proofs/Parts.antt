@@ -11,7 +11,7 @@ use lib.Seq.{drop-at, drop-append-add, drop-append-le, drop-drop, getD-drop}
 use Rattle.lists.specs.Lists.{range, count, sort}
 use Rattle.lists.proofs.All.{length-range}
 use Rattle.lists.proofs.Sort.{length-sort}
-use Rattle.graph.proofs.Maps.{getD-map-range}
+use Rattle.lists.proofs.Maps.{getD-image}
 use Rattle.graph.specs.Graph.{Edge, Graph, Direction, forward, backward, near, key}
 use Rattle.graph.specs.Store.{offsets, entries, storeOf, storeSize, sideAt}
 
@@ -35,7 +35,7 @@ offset d g v = count (λ (e : Edge). ltb (near d e) v) (g .edges)
 
 pub offset-at : (d : Direction) (g : Graph) (v : ℕ) → v ≤ g .vertices → getD (offsets d g) v 0 ≡ offset d g v
 unfolding offsets
-offset-at d g v h = getD-map-range (offset d g) (suc (g .vertices)) v 0 (omega arith)
+offset-at d g v h = getD-image (offset d g) (suc (g .vertices)) v 0 (omega arith)
 
 -- The offsets and entries of one direction, and what follows them.
 abbrev pub side : Direction → Graph → List ℕ → List ℕ

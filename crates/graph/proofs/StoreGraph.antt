@@ -14,10 +14,10 @@ use Rattle.lists.proofs.Tests.{and-l, and-r, and-both, imp-intro}
 use Rattle.lists.proofs.All.{all-follows, all-keep, keep-all}
 use Rattle.lists.proofs.Same.{eq-same}
 use Rattle.lists.proofs.Faults.{zero-refuse}
+use Rattle.lists.proofs.Maps.{keep-map, map-under}
+use Rattle.lists.proofs.Cut.{cut-parts}
 use Rattle.graph.specs.Graph.{Edge, Graph, forward, key}
 use Rattle.graph.specs.Store.{storeOf, listIn, edgeOf, graphIn, wellFormed, storeSize, storeFault}
-use Rattle.graph.proofs.Maps.{keep-map, map-under}
-use Rattle.graph.proofs.Cut.{cut-parts}
 use Rattle.graph.proofs.WellFormed.{WellFormed, fitting, well-formed}
 use Rattle.graph.proofs.Keys.{entryIn, keyAt, key-at, near-in, key-near, key-entry, key-below, edge-of, sortedKeys, forward-keys}
 use Rattle.graph.proofs.Parts.{offset, sideStart, length-store, store-shape, store-offset}

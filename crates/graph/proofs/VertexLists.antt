@@ -12,10 +12,11 @@ use lib.Seq.{take-append-le}
 use Rattle.lists.specs.Lists.{keep, count, ascending}
 use Rattle.lists.proofs.Count.{count-le, count-map, count-keep, count-under}
 use Rattle.lists.proofs.Sort.{ascending-keep, ascending-map, count-sort}
+use Rattle.lists.proofs.Maps.{take-map, drop-map}
+use Rattle.lists.proofs.All.{kept}
+use Rattle.lists.proofs.Cut.{cut-part}
 use Rattle.graph.specs.Graph.{Edge, Graph, Direction, near, entry, key}
 use Rattle.graph.specs.Store.{entries, storeOf}
-use Rattle.graph.proofs.Maps.{take-map, drop-map}
-use Rattle.graph.proofs.Cut.{all-kept, cut-part}
 use Rattle.graph.proofs.WellFormed.{WellFormed, fitting}
 use Rattle.graph.proofs.Keys.{entryIn, keyAt, key-at, key-entry, key-near, sortedKeys, keys-ascend, keys-below}
 use Rattle.graph.proofs.Parts.{offset, sideStart, sideEnd, length-entries, store-entries}
@@ -52,7 +53,7 @@ module _ (g : Graph) (w : WellFormed g) (d : Direction) (v : ℕ) where
     pub vertex-ascends : ascending (listAt d g (storeOf g ++ rest) v) ≡ true
     vertex-ascends =
         ap ascending vertex-list
-        ∙ ascending-map (keyAt v) entryIn (keep (keyAt v) (sortedKeys d g)) (all-kept (keyAt v) (sortedKeys d g)) rise
+        ∙ ascending-map (keyAt v) entryIn (keep (keyAt v) (sortedKeys d g)) (kept (keyAt v) (sortedKeys d g)) rise
         (ascending-keep (keyAt v) (sortedKeys d g) (keys-ascend g w d))
       where
         rise : (j k : ℕ) → keyAt v j ≡ true → keyAt v k ≡ true → j < k → entryIn j < entryIn k

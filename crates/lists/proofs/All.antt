@@ -1,7 +1,7 @@
 -- Laws of `all`, `any`, `keep` and `range`. Assumes nothing.
 use mathlib.Core.Path.{_≡_, refl, sym, _∙_, ap, ap₂, fun-ext, subst}
 use mathlib.Core.Logic.{_⊎_, inl, inr}
-use mathlib.Core.Bool.{Bool, true, false, cond, _&&_, _||_, and-assoc, and-true}
+use mathlib.Core.Bool.{Bool, true, false, cond, _&&_, and-assoc}
 use mathlib.Core.List.{List, [], _∷_, _++_, map, map-append, List·Memᴰ, List·Memᴰ·head, List·Memᴰ·tail}
 use Prim.Native.Nat.{ℕ, zero, suc, suc-le-suc, _+_, _≤_, _<_}
 use native.Mathlib.Nat.{eq-or-lt-of-le, le-of-suc-le-suc, not-suc-le-zero, zero-lt-suc}
@@ -13,7 +13,7 @@ use lib.ListN.{length, getD, take, length-append}
 use lib.Seq.{getD-append-seam, take-suc}
 use lib.ListN.{List·getD-append}
 use Rattle.lists.specs.Lists.{_⇒_, range, all, any, keep}
-use Rattle.lists.proofs.Tests.{clash, iff, and-l, and-r, and-both, or-intro-l, or-intro-r, imp-use, imp-intro, eqb-refl}
+use Rattle.lists.proofs.Tests.{iff, and-l, and-r, and-both, or-intro-l, or-intro-r, imp-use, imp-intro, eqb-refl}
 
 module _ {A : Type 0} where
   pub all-append : (p : A → Bool) (xs ys : List A) → all p (xs ++ ys) ≡ (all p xs && all p ys)
@@ -124,6 +124,22 @@ module _ {A : Type 0} where
   keep-under s p r [] e h = refl
   keep-under s p r (x ∷ xs) e h =
       ap₂ (λ (b : Bool) (l : List A). cond b (x ∷ l) l) (h x (and-l (s x) (all s xs) e)) (keep-under s p r xs (and-r (s x) (all s xs) e) h)
+
+  -- Where the elements pass a test r that those of p fail, nothing is kept.
+  pub keep-none : (p r : A → Bool) (xs : List A) → all r xs ≡ true → ((x : A) → r x ≡ true → p x ≡ false) → keep p xs ≡ []
+  unfolding all keep
+  keep-none p r [] e h = refl
+  keep-none p r (x ∷ xs) e h = rw (h x (and-l (r x) (all r xs) e)) (keep-none p r xs (and-r (r x) (all r xs) e) h)
+
+  pub all-true : (xs : List A) → all (λ x. true) xs ≡ true
+  all-true xs = all-mem (λ x. true) xs (λ x m. refl)
+
+  -- What is kept passes the test, and what all elements pass.
+  pub all-kept : (s p r : A → Bool) (xs : List A) → all s xs ≡ true → ((x : A) → s x ≡ true → p x ≡ true → r x ≡ true) → all r (keep p xs) ≡ true
+  all-kept s p r xs e h = all-keep r p xs ∙ all-follows s (λ x. p x ⇒ r x) xs e (λ x t. imp-intro (p x) (r x) (h x t))
+
+  pub kept : (p : A → Bool) (xs : List A) → all p (keep p xs) ≡ true
+  kept p xs = all-kept (λ x. true) p p xs (all-true xs) (λ x s t. t)
 
   -- What fails of each element fails of any.
   pub any-none : (p : A → Bool) (xs : List A) → ((x : A) → p x ≡ false) → any p xs ≡ false

@@ -1,17 +1,17 @@
 -- Laws of `count` and `total`. Assumes nothing.
 use mathlib.Core.Path.{_≡_, refl, sym, _∙_, ap, ap₂, fun-ext}
+use mathlib.Core.Logic.{_⊎_, inl, inr}
 use mathlib.Core.Bool.{Bool, true, false, cond, _&&_, and-true, and-false}
 use mathlib.Core.List.{List, [], _∷_, _++_, map, flatMap, List·Memᴰ, List·Memᴰ·head, List·Memᴰ·tail}
 use Prim.Native.Nat.{ℕ, zero, suc, _+_, _≤_, _<_}
-use native.Mathlib.Nat.{zero-add, add-zero, add-assoc, add-left-comm, add-comm}
-use native.Mathlib.Numerals.{add-one}
+use native.Mathlib.Nat.{zero-add, add-zero, add-assoc, eq-or-lt-of-le, le-of-suc-le-suc}
 use native.Mathlib.Omega.{arith}
 use lib.Dec.{eqb, ltb}
 use lib.ListN.{length}
-use borrow.Author.Tests.{eqb-true, eq-eqb, ne-eqb, ltb-true, lt-ltb, le-ltb, ltb-false}
+use borrow.Author.Tests.{eqb-true, ltb-true, lt-ltb, le-ltb}
 use Rattle.lists.specs.Lists.{bit, range, all, keep, count, total}
 use Rattle.lists.proofs.All.{all-append}
-use Rattle.lists.proofs.Tests.{clash, iff, and-l, and-r, and-both, and-turn, eqb-sym}
+use Rattle.lists.proofs.Tests.{iff, and-l, and-r, and-turn, eqb-sym}
 
 module _ {A : Type 0} where
   pub count-append : (p : A → Bool) (xs ys : List A) → count p (xs ++ ys) ≡ count p xs + count p ys
@@ -178,3 +178,21 @@ count-produced p make t c k₀ n h =
     ∙ ap (λ (r : ℕ → Bool). count r (range n))
     (fun-ext (λ (k : ℕ). ap (λ (b : Bool). t k && b) (h k ∙ ap (λ (b : Bool). c && b) (eqb-sym k₀ k)) ∙ and-turn (t k) c (eqb k k₀)))
     ∙ count-range-one (λ (k : ℕ). t k && c) k₀ n
+
+-- ---- one element more
+
+pub count-snoc : {A : Type 0} (p : A → Bool) (xs : List A) (x : A) → count p (xs ++ (x ∷ [])) ≡ count p xs + bit (p x)
+unfolding count
+count-snoc p xs x = count-append p xs (x ∷ []) ∙ ap (λ (n : ℕ). count p xs + n) (add-zero (bit (p x)))
+
+pub total-suc : (f : ℕ → ℕ) (n : ℕ) → total f (range (suc n)) ≡ total f (range n) + f n
+unfolding total range
+total-suc f n = total-append f (range n) (n ∷ []) ∙ ap (λ (k : ℕ). total f (range n) + k) (add-zero (f n))
+
+pub total-mono : (f : ℕ → ℕ) (i n : ℕ) → i ≤ n → total f (range i) ≤ total f (range n)
+total-mono f i zero h = let z : i ≡ 0 = omega arith in rw z (omega arith)
+total-mono f i (suc n) h = go (total-mono f i n) (eq-or-lt-of-le h)
+  where
+    go : (i ≤ n → total f (range i) ≤ total f (range n)) → (i ≡ suc n) ⊎ (i < suc n) → total f (range i) ≤ total f (range (suc n))
+    go g (inl e) = rw e (omega arith)
+    go g (inr l) = omega (arith, total-suc f n, g (le-of-suc-le-suc l))

@@ -1,8 +1,13 @@
 -- Laws of the words in specs/.
 pub mod Tests
+pub mod Bits
 pub mod All
 pub mod Count
 pub mod Same
-pub mod Faults
 pub mod Parts
 pub mod Sort
+pub mod Maps
+pub mod Any
+pub mod Ascending
+pub mod Cut
+pub mod Faults

@@ -1,10 +1,10 @@
 -- Laws of parts of a list, `take` and `drop`, beyond the library's. Assumes nothing.
-use mathlib.Core.Path.{_≡_, refl, sym, _∙_, ap}
+use mathlib.Core.Path.{_≡_, sym, _∙_, ap}
 use mathlib.Core.List.{List, [], _∷_}
 use Prim.Native.Nat.{ℕ, zero, suc, _+_, _-_, _≤_}
 use native.Mathlib.Nat.{sub-zero, suc-sub-suc, zero-sub}
 use lib.ListN.{take, drop}
-use lib.Seq.{take-nil, drop-nil, take-take}
+use lib.Seq.{take-nil, take-take}
 
 module _ {A : Type 0} where
   pub drop-take : (n k : ℕ) (l : List A) → drop n (take k l) ≡ take (k - n) (drop n l)

@@ -1,48 +1,24 @@
 -- The faults of a graph file, part by part. Assumes nothing.
 use mathlib.Core.Path.{_≡_, refl, sym, _∙_, ap}
-use mathlib.Core.Logic.{_⊎_, inl, inr}
-use mathlib.Core.Bool.{Bool, true, false, cond, not}
-use mathlib.Core.List.{List, [], _∷_, _++_, map, map-append}
+use mathlib.Core.Bool.{Bool, not}
+use mathlib.Core.List.{List, [], _∷_, map, map-append}
 use Prim.Native.Nat.{ℕ, zero, suc, _+_, _≤_, _<_}
-use native.Mathlib.Nat.{eq-or-lt-of-le, le-of-suc-le-suc}
 use native.Mathlib.Numerals.{add-one}
 use native.Mathlib.Omega.{arith}
-use lib.Dec.{eqb, ltb}
+use lib.Dec.{ltb}
 use lib.ListN.{length, length-map}
 use borrow.Author.Tests.{ltb-true, lt-ltb, le-ltb, ltb-false, eq-eqb, ne-eqb}
 use Rattle.lists.specs.Lists.{range}
 use Rattle.lists.specs.Refusal.{refuse, first}
 use Rattle.lists.proofs.Tests.{iff, not-true}
 use Rattle.lists.proofs.All.{length-range}
-use Rattle.lists.proofs.Faults.{first-append, first-head, first-tail, refuse-zero}
+use Rattle.lists.proofs.Faults.{first-append, first-head, first-tail, refuse-zero, first-left, first-stop}
 use Rattle.packed.proofs.Laws.{field-lt}
 use Rattle.graph.specs.Graph.{forward, key}
 use Rattle.graph.specs.File.{graphOf, graphFault, edgeIn, edgeFault, edgeCount, vertexCount, fileSize, badEdge, ascends}
 use Rattle.graph.specs.Store.{usedWords, storeSize, loadFault}
 use Rattle.graph.proofs.Loads.{load-fits}
 use Rattle.load.specs.Reading.{Whole, edgeWith, faultFrom, lengthFault, edgesFault}
-
--- A fault in front is the refusal.
-pub first-left : (js ks : List ℕ) → (first js ≡ 0 → ⊥) → first (js ++ ks) ≡ first js
-unfolding first
-first-left [] ks h = absurd (h refl)
-first-left (j ∷ js) ks h = go (eqb j 0) (first-left js ks) h
-  where
-    go : (b : Bool) → ((first js ≡ 0 → ⊥) → first (js ++ ks) ≡ first js) → (cond b (first js) j ≡ 0 → ⊥)
-        → cond b (first (js ++ ks)) j ≡ cond b (first js) j
-    go true f k = f k
-    go false f k = refl
-
--- Of a fault for each number below n, the first that is not 0.
-pub first-found : (f : ℕ → ℕ) (n i : ℕ) → i < n → first (map f (range i)) ≡ 0 → (f i ≡ 0 → ⊥) → first (map f (range n)) ≡ f i
-unfolding range first
-first-found f zero i h e k = absurd (omega arith)
-first-found f (suc n) i h e k = ap first (map-append f (range n) (n ∷ [])) ∙ go (first-found f n i) (eq-or-lt-of-le (le-of-suc-le-suc h))
-  where
-    go : (i < n → first (map f (range i)) ≡ 0 → (f i ≡ 0 → ⊥) → first (map f (range n)) ≡ f i) → (i ≡ n) ⊎ (i < n)
-        → first (map f (range n) ++ (f n ∷ [])) ≡ f i
-    go g (inl j) = rw (← j) (first-append (map f (range i)) (f i ∷ []) e ∙ rw (ne-eqb (f i) 0 k))
-    go g (inr l) = first-left (map f (range n)) (f n ∷ []) (λ z. k (sym (g l e k) ∙ z)) ∙ g l e k
 
 -- A fault of the length or of the fill bits comes before those of edges.
 pub graph-length : (s : List ℕ) → (lengthFault s ≡ 0 → ⊥) → graphFault s ≡ lengthFault s
@@ -105,7 +81,7 @@ module _ (s : List ℕ) {n least i a l b r : ℕ} (t : Tested s n least i a l b 
 
   pub tested-found : i < edgeCount s → (r ≡ 0 → ⊥) → r ≡ edgesFault s
   unfolding edgesFault
-  tested-found h k = tested ∙ sym (first-found (edgeFault s) (edgeCount s) i h (t .earlier .none) (λ z. k (tested ∙ z)))
+  tested-found h k = tested ∙ sym (first-stop (edgeFault s) (edgeCount s) i h (t .earlier .none) (λ z. k (tested ∙ z)))
 
   pub tested-more : r ≡ 0 → {k : ℕ} → k ≡ key forward (edgeWith a l b) → Faultless s (k + 1) (i + 1)
   unfolding leastKey range first

@@ -2,7 +2,7 @@
 -- Assumes nothing.
 use mathlib.Core.Path.{_≡_, refl, sym, ap, _∙_}
 use mathlib.Core.Bool.{Bool, true, false}
-use mathlib.Core.List.{List, [], _∷_, map}
+use mathlib.Core.List.{List}
 use Prim.Native.Nat.{ℕ, zero, suc, _+_, _-_, _*_, _/_, _%_, _≤_, _<_}
 use native.Mathlib.Nat.{le-refl, mod-lt, mod-eq-of-lt, zero-lt-suc}
 use native.Mathlib.Omega.{arith}
@@ -11,16 +11,11 @@ use lib.Dec.{ltb}
 use lib.ListN.{length, getD, length-map, List·getD-eq-default}
 use Rattle.lists.specs.Lists.{range}
 use Rattle.lists.proofs.All.{length-range, getD-range}
+use Rattle.lists.proofs.Maps.{getD-map}
 use Rattle.packed.specs.Field.{bitAt, fieldAt, bytesFor, fillSet}
 use Rattle.packed.specs.Encode.{number, bitIn, bytesOf}
 use Rattle.packed.proofs.Number.{number-ext, number-lt, number-digit}
 use Rattle.packed.proofs.Laws.{field-number}
-
--- An element of an image, whatever stands past the end of either list.
-pub getD-image : {A B : Type 0} (f : A → B) (xs : List A) (i : ℕ) (d : A) (e : B) → i < length xs → getD (map f xs) i e ≡ f (getD xs i d)
-getD-image f [] i d e h = absurd (omega arith)
-getD-image f (x ∷ xs) zero d e h = refl
-getD-image f (x ∷ xs) (suc i) d e h = getD-image f xs i d e (omega arith)
 
 -- A bit of a list is 0 or 1.
 pub bitIn-lt : (bits : List ℕ) (i : ℕ) → bitIn bits i < 2
@@ -47,7 +42,7 @@ byte-bytesOf bits i = go (ltb i (bytesFor (length bits))) refl
   where
     go : (b : Bool) → ltb i (bytesFor (length bits)) ≡ b → getD (bytesOf bits) i 0 ≡ number (bitIn bits) (8 * i) 8
     go true e =
-        getD-image _ (range (bytesFor (length bits))) i 0 0 (rw length-range (ltb-true _ _ e))
+        getD-map _ (range (bytesFor (length bits))) i 0 0 (rw length-range (ltb-true _ _ e))
         ∙ ap (λ (k : ℕ). number (bitIn bits) (8 * k) 8) (getD-range (bytesFor (length bits)) i (ltb-true _ _ e))
     go false e =
         List·getD-eq-default (bytesOf bits) 0 (rw length-bytesOf (ltb-false _ _ e)) ∙ sym (number-past bits (8 * i) 8 (omega (arith, ltb-false)))

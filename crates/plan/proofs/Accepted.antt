@@ -13,14 +13,13 @@ use Rattle.lists.specs.Refusal.{refuse, first}
 use Rattle.lists.proofs.Tests.{not-false}
 use Rattle.lists.proofs.All.{all-range}
 use Rattle.lists.proofs.Count.{all-map}
-use Rattle.lists.proofs.Faults.{first-head, first-tail, first-cons, first-append-l, first-each, refuse-zero}
+use Rattle.lists.proofs.Faults.{first-head, first-tail, first-cons, first-append-l, first-each, refuse-zero, first-some, first-one, first-group}
 use Rattle.packed.specs.Field.{bitsIn}
 use Rattle.packed.proofs.Laws.{field-lt}
 use Rattle.query.specs.Query.{Query}
 use Rattle.query.specs.File.{queryOf, queryFault}
 use Rattle.query.specs.Parts.{Readable}
 use Rattle.query.specs.Answer.{structOf, Held}
-use Rattle.query.proofs.Refusals.{first-some, first-one, first-group}
 use Rattle.query.proofs.FileLaws.{query-readable as readable, query-held as holds}
 use Rattle.plan.specs.Plan.{scan, extend, join}
 use Rattle.plan.specs.Check.{rulesFault}

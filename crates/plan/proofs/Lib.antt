@@ -1,6 +1,6 @@
 -- Laws of the plan: its file, its struct, the sets that its results cover, the rules, and the answers.
 pub mod Refusals
-pub mod Indices
+pub mod Bits
 pub mod Places
 pub mod Structs
 pub mod Stacks

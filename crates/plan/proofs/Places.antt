@@ -12,10 +12,9 @@ use lib.ListN.{length}
 use borrow.Author.Tests.{lt-ltb, le-ltb, ltb-false}
 use Rattle.lists.specs.Lists.{range}
 use Rattle.lists.specs.Refusal.{first}
-use Rattle.lists.proofs.Faults.{first-head, first-tail, first-append, refuse-zero}
+use Rattle.lists.proofs.Faults.{first-head, first-tail, first-append, refuse-zero, first-some, first-group, first-stop, first-next}
 use Rattle.packed.specs.Field.{bitsIn, bytesFor}
 use Rattle.query.specs.Query.{Query}
-use Rattle.query.proofs.Refusals.{first-some, first-group, first-stop, first-next}
 use Rattle.plan.specs.File.{kindAt, operandWidth, place, operatorFault}
 use Rattle.plan.specs.Parts.{endFaults, operatorsFaults}
 

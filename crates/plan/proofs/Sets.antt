@@ -10,17 +10,18 @@ use lib.Bits.{bitAnd, bitOr, and-le-l}
 use lib.ListN.{length}
 use Rattle.lists.specs.Lists.{_⇒_, range, all, any}
 use Rattle.lists.proofs.Tests.{clash, fails, imp-intro, or-intro-l, or-intro-r}
+use Rattle.lists.proofs.Maps.{length-image}
+use Rattle.lists.proofs.Any.{any-all}
+use Rattle.lists.proofs.All.{getD-all, all-getD}
 use Rattle.graph.specs.Graph.{Edge}
 use Rattle.query.specs.Query.{VertexSet, inside, edgeAt}
 use Rattle.query.specs.Mask.{inMask, MaskOf, only}
 use Rattle.query.specs.Answer.{edgeOf, queryIn, Held}
 use Rattle.query.specs.declared.Query.{Query as QueryStruct}
-use Rattle.query.proofs.Images.{length-image}
 use Rattle.query.proofs.Structs.{edge-in}
 use Rattle.query.proofs.Masks.{in-or, in-and, mask-all}
 use Rattle.plan.specs.Plan.{scan, extend, plus, union}
 use Rattle.plan.specs.Pile.{named, kept}
-use Rattle.plan.proofs.Indices.{any-all, all-index, index-all}
 
 -- A mask of both sides' vertices is that of their union.
 pub or-set : (b p : ℕ) → inMask (bitOr b p) ≡ union (inMask b) (inMask p)
@@ -66,10 +67,10 @@ unfolding queryIn
 edges-length d = length-image (edgeOf d) (d .edges)
 
 pub edges-pass : (d : QueryStruct) (t : Edge → Bool) → ((i : ℕ) → i < d .edges → t (edgeAt (queryIn d) i) ≡ true) → all t (queryIn d .edges) ≡ true
-edges-pass d t h = all-index t (queryIn d .edges) _ (λ i l. h i (rw (edges-length d) at l))
+edges-pass d t h = getD-all t (queryIn d .edges) _ (λ i l. h i (rw (edges-length d) at l))
 
 pub edge-fails : (d : QueryStruct) (t : Edge → Bool) (i : ℕ) → i < d .edges → t (edgeAt (queryIn d) i) ≡ false → all t (queryIn d .edges) ≡ false
-edge-fails d t i l e = fails (all t (queryIn d .edges)) (λ a. clash (index-all t (queryIn d .edges) _ a i (rw (edges-length d) l)) e)
+edge-fails d t i l e = fails (all t (queryIn d .edges)) (λ a. clash (all-getD t (queryIn d .edges) i _ (rw (edges-length d) l) a) e)
 
 -- The vertex and the edge that a named operator has.
 pub named-vertex : (d : QueryStruct) → Held d → (v : ℕ) → named (queryIn d) (extend v) ≡ true → v < 32

@@ -6,9 +6,10 @@ use native.Mathlib.Nat.{le-trans}
 use native.Mathlib.Omega.{arith}
 use lib.ListN.{getD, set, replicate}
 use Rattle.lists.specs.Lists.{range}
+use Rattle.lists.proofs.Maps.{length-image, getD-image, image-ext}
 use Rattle.packed.specs.Field.{bitsIn}
 use Rattle.query.specs.Answer.{padded}
-use Rattle.query.proofs.Images.{length-image, getD-image, image-ext, padded-step, getD-padded}
+use Rattle.query.proofs.Images.{padded-step, getD-padded}
 use Rattle.plan.specs.Plan.{Operator}
 use Rattle.plan.specs.File.{operatorCount, kindAt, operandWidth, operandAt, operatorAt, place, operatorsOf}
 use Rattle.plan.specs.Answer.{maxOperators, planStruct, operatorOf, operatorIn, operatorsIn}

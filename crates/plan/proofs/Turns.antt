@@ -8,16 +8,15 @@ use lib.ListN.{length, drop, drop-of-length-le}
 use lib.Seq.{drop-cons}
 use Rattle.lists.specs.Lists.{all}
 use Rattle.lists.specs.Refusal.{first}
-use Rattle.lists.proofs.Faults.{first-head, first-tail, first-cons}
+use Rattle.lists.proofs.Faults.{first-head, first-tail, first-cons, first-some, first-one}
+use Rattle.lists.proofs.Maps.{length-image}
+use Rattle.lists.proofs.All.{all-getD}
 use Rattle.query.specs.Query.{Query, VertexSet}
-use Rattle.query.proofs.Refusals.{first-some, first-one}
-use Rattle.query.proofs.Images.{length-image}
 use Rattle.plan.specs.Plan.{Operator, join}
 use Rattle.plan.specs.Check.{ruleFault, covered, endFault, rulesFault}
 use Rattle.plan.specs.Answer.{operatorIn, operatorsIn}
 use Rattle.plan.specs.Pile.{named}
 use Rattle.plan.specs.declared.Plan.{Plan as PlanStruct}
-use Rattle.plan.proofs.Indices.{index-all}
 use Rattle.plan.proofs.Structs.{operator-in}
 
 module _ (q : Query) (p : PlanStruct) where
@@ -28,7 +27,7 @@ module _ (q : Query) (p : PlanStruct) where
   -- Each operator of a plan whose operators are named is named.
   pub named-at : (i : ℕ) (o : Operator) → all (named q) (operatorsIn p) ≡ true → i < p .operators → o ≡ operatorIn p i → named q o ≡ true
   named-at i o a h e =
-      ap (named q) (e ∙ sym (operator-in p i join h)) ∙ index-all (named q) (operatorsIn p) join a i (rw count-is h)
+      ap (named q) (e ∙ sym (operator-in p i join h)) ∙ all-getD (named q) (operatorsIn p) i join (rw count-is h) a
 
   -- The faults from operator i on: its own, then those of the rest over the pile that it leaves.
   turn : (sets : List VertexSet) (i : ℕ) (o : Operator) → i < p .operators → o ≡ operatorIn p i

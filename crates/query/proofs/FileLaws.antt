@@ -10,7 +10,7 @@ use lib.ListN.{length}
 use borrow.Author.Tests.{ltb-true, ltb-false, lt-ltb, le-ltb}
 use Rattle.lists.specs.Lists.{range}
 use Rattle.lists.specs.Refusal.{refuse, first}
-use Rattle.lists.proofs.Faults.{first-head, first-tail, first-cons, refuse-zero, zero-refuse}
+use Rattle.lists.proofs.Faults.{first-head, first-tail, first-cons, refuse-zero, zero-refuse, first-some, first-one, first-group, first-after, first-stop, first-next}
 use Rattle.packed.specs.Field.{fieldAt, bitsIn, bytesFor}
 use Rattle.packed.proofs.Laws.{field-add, field-lt}
 use Rattle.query.specs.Query.{connected}
@@ -18,7 +18,6 @@ use Rattle.query.specs.File.{vertexCount, edgeCount, edgeStart, edgeIn, 
 use Rattle.query.specs.Parts.{sizeFault, edgeFrom, keyFault, edgesFault, fileFault, Readable}
 use Rattle.query.specs.Answer.{structOf, Held}
 use Rattle.query.proofs.Structs.{held}
-use Rattle.query.proofs.Refusals.{first-some, first-one, first-group, first-after, first-stop, first-next}
 
 -- The three fields of an edge, read as one, are its key.
 pub key-field : (s : List ℕ) (at : ℕ) → fieldAt s at 14 ≡ key (edgeFrom s at)

@@ -11,10 +11,10 @@ use borrow.Author.Tests.{ltb-true, lt-ltb, le-ltb, eqb-true, eqb-false}
 use Rattle.lists.specs.Lists.{range, any, keep}
 use Rattle.lists.proofs.Tests.{iff, and-l, eqb-sym}
 use Rattle.lists.proofs.All.{keep-append}
+use Rattle.lists.proofs.Any.{any-append}
 use Rattle.query.specs.Query.{Query, VertexSet, among, touches, reached, connected}
 use Rattle.query.specs.Mask.{inMask, MaskOf, only, grown}
 use Rattle.query.proofs.Masks.{in-or, mask-all}
-use Rattle.query.proofs.Touch.{any-append}
 
 -- Below n + 1 is below n, or n.
 pub below-suc : (t : ℕ → Bool) (w n : ℕ) → (ltb w (n + 1) && t w) ≡ (ltb w n && t w || eqb w n && t n)

@@ -11,17 +11,17 @@ use Rattle.lists.specs.Lists.{range, all}
 use Rattle.lists.proofs.Tests.{and-l, and-r, not-false}
 use Rattle.lists.proofs.All.{all-range}
 use Rattle.lists.proofs.Count.{all-map}
+use Rattle.lists.proofs.Maps.{map-indices, length-image, getD-image, image-ext}
 use Rattle.packed.specs.Field.{fieldAt}
 use Rattle.packed.proofs.Laws.{field-lt}
 use Rattle.graph.specs.Graph.{Edge}
-use Rattle.graph.proofs.Maps.{map-indices}
 use Rattle.query.specs.Query.{Query, edgeAt}
 use Rattle.query.specs.File.{minVertices, maxVertices, minEdges, maxEdges, vertexCount, edgeCount, edgeStart, edgeIn, queryOf, outsideLimits}
 use Rattle.query.specs.Parts.{labelIn, edgeField}
 use Rattle.query.specs.Answer.{padded, edgeStruct, asEdge, structOf, edgeOf, queryIn, Held}
 use Rattle.query.specs.declared.Edge.{Edge as EdgeStruct}
 use Rattle.query.specs.declared.Query.{Query as QueryStruct}
-use Rattle.query.proofs.Images.{length-image, getD-image, image-ext, getD-padded, take-padded}
+use Rattle.query.proofs.Images.{getD-padded, take-padded}
 
 abbrev noEdge : Edge
 noEdge = record { source = 0; label = 0; target = 0 }

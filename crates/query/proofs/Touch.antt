@@ -1,8 +1,8 @@
 -- Laws of the edges between a vertex and a set: they are those to each vertex of the set. Assumes nothing.
 use mathlib.Core.Path.{_≡_, refl, sym, _∙_, ap, ap₂}
-use mathlib.Core.Bool.{Bool, true, false, not, _&&_, _||_, or-assoc, or-false, and-true, and-false}
-use mathlib.Core.List.{List, [], _∷_, _++_, map}
-use Prim.Native.Nat.{ℕ, suc, _+_, _^_, _<_}
+use mathlib.Core.Bool.{Bool, true, false, not, _&&_, _||_, and-true, and-false}
+use mathlib.Core.List.{List, [], _∷_, map}
+use Prim.Native.Nat.{ℕ, _+_, _^_, _<_}
 use native.Mathlib.Numerals.{add-one}
 use native.Mathlib.Nat.{lt-of-le-of-lt}
 use lib.Dec.{eqb}
@@ -10,12 +10,12 @@ use lib.Bits.{bitAnd, bitOr, and-le-l}
 use borrow.Author.Tests.{eqb-true, eq-eqb, ne-eqb}
 use Rattle.lists.specs.Lists.{range, any}
 use Rattle.lists.proofs.Tests.{clash, fails, and-l, and-r, and-both, or-intro-l, or-intro-r, or-elim, eqb-refl, eqb-sym}
+use Rattle.lists.proofs.Any.{any-suc, any-follows}
 use Rattle.graph.specs.Graph.{Edge}
 use Rattle.query.specs.Query.{Query, VertexSet, between, touches}
 use Rattle.query.specs.Mask.{inMask, MaskOf, only, neighbours}
 use Rattle.query.specs.Answer.{edgeOf, queryIn}
 use Rattle.query.specs.declared.Query.{Query as QueryStruct}
-use Rattle.query.proofs.Images.{image-suc}
 use Rattle.query.proofs.Masks.{in-or, in-and, in-none, mask-empty}
 
 -- The other end of an edge of v is the vertex that the edge joins to v.
@@ -36,26 +36,6 @@ from-target e v w n i = rw (ne-eqb (e .source) v n, eq-eqb (e .target) v i) (and
 
 pub from-neither : (e : Edge) (v w : ℕ) → (e .source ≡ v → ⊥) → (e .target ≡ v → ⊥) → between v (only w) e ≡ false
 from-neither e v w n m = rw (ne-eqb (e .source) v n, ne-eqb (e .target) v m) (and-false (eqb (e .source) w))
-
-module _ {A : Type 0} where
-  pub any-append : (p : A → Bool) (xs ys : List A) → any p (xs ++ ys) ≡ (any p xs || any p ys)
-  unfolding any
-  any-append p [] ys = refl
-  any-append p (x ∷ xs) ys = ap (λ (b : Bool). p x || b) (any-append p xs ys) ∙ sym (or-assoc (p x) (any p xs) (any p ys))
-
-  -- One more of an image.
-  pub any-suc : (p : A → Bool) (f : ℕ → A) (n : ℕ) → any p (map f (range (suc n))) ≡ (any p (map f (range n)) || p (f n))
-  unfolding any
-  any-suc p f n =
-      ap (any p) (image-suc f n) ∙ any-append p (map f (range n)) (f n ∷ []) ∙ ap (λ (b : Bool). any p (map f (range n)) || b) (or-false (p (f n)))
-
-  -- What follows from a test passes of some element where the test does.
-  pub any-follows : (p r : A → Bool) (xs : List A) → ((x : A) → p x ≡ true → r x ≡ true) → any p xs ≡ true → any r xs ≡ true
-  unfolding any
-  any-follows p r [] h e = e
-  any-follows p r (x ∷ xs) h e =
-      or-elim (p x) (any p xs) e (λ t. or-intro-l (r x) (any r xs) (h x t))
-      (λ t. or-intro-r (r x) (any r xs) (any-follows p r xs h t))
 
 -- An edge between v and S is an edge between v and a vertex of S.
 pub between-one : (v u : ℕ) (S : VertexSet) (e : Edge) → S u ≡ true → between v (only u) e ≡ true → between v S e ≡ true
@@ -86,7 +66,7 @@ between-some v S e t =
 
 -- So some query edge runs between v and S exactly where S has a neighbour of v.
 pub touches-one : (q : Query) (v u : ℕ) (S : VertexSet) → S u ≡ true → neighbours q v u ≡ true → touches q v S ≡ true
-touches-one q v u S s = any-follows (between v (only u)) (between v S) (q .edges) (λ e. between-one v u S e s)
+touches-one q v u S s t = any-follows (between v (only u)) (between v S) (q .edges) t (λ e. between-one v u S e s)
 
 pub touches-some : (q : Query) (v : ℕ) (S : VertexSet) → touches q v S ≡ true → (u : ℕ) × (S u ≡ true) × (neighbours q v u ≡ true)
 unfolding any

@@ -11,10 +11,11 @@ use lib.Seq.{take-nil, drop-nil}
 use borrow.Author.Tests.{ltb-true, ltb-false, lt-ltb, le-ltb, le-leb, lt-leb, ne-eqb}
 use Rattle.lists.specs.Lists.{any, keep, count, ascending}
 use Rattle.lists.proofs.Tests.{eqb-sym}
-use Rattle.lists.proofs.All.{all-getD, all-follows, keep-all}
+use Rattle.lists.proofs.All.{all-getD, all-follows, keep-all, keep-none}
 use Rattle.lists.proofs.Count.{count-le, count-passes}
 use Rattle.lists.proofs.Sort.{ascends-tail}
-use Rattle.search.proofs.Ascending.{ascending-above, ascending-rest, keep-none, any-fails}
+use Rattle.lists.proofs.Ascending.{ascending-above, ascending-rest}
+use Rattle.lists.proofs.Any.{any-fails}
 use Rattle.search.specs.Search.{below}
 
 pub below-le : (x : ℕ) (s : List ℕ) → below x s ≤ length s

@@ -14,8 +14,8 @@ use Rattle.lists.specs.Lists.{keep, ascending}
 use Rattle.lists.proofs.Tests.{iff, and-l, and-r, and-both, not-true}
 use Rattle.lists.proofs.All.{keep-keep, keep-ext}
 use Rattle.lists.proofs.Count.{length-keep}
+use Rattle.lists.proofs.Cut.{cut}
 use Rattle.graph.specs.Graph.{covers}
-use Rattle.graph.proofs.Cut.{cut}
 use Rattle.search.specs.Search.{below, firstFrom}
 use Rattle.search.proofs.Laws.{first-length, below-first, above-first}
 

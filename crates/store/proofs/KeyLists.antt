@@ -11,13 +11,12 @@ use lib.ListN.{length, length-map}
 use borrow.Author.Tests.{eqb-true, eq-eqb, ltb-true, ltb-false, lt-ltb, le-ltb}
 use Rattle.lists.specs.Lists.{range, all, count, ascending}
 use Rattle.lists.proofs.Tests.{and-l, and-r, and-both, not-true}
-use Rattle.lists.proofs.All.{all-append, all-follows}
+use Rattle.lists.proofs.All.{all-append, all-follows, all-true}
 use Rattle.lists.proofs.Count.{all-map, count-append, count-map, count-none, count-all}
-use Rattle.lists.proofs.Sort.{ascends-from, ascends-tail, ascends-above}
-use Rattle.graph.proofs.Maps.{map-under, flatMap-suc}
+use Rattle.lists.proofs.Sort.{ascends-from, ascends-tail, ascends-above, ascending-map}
+use Rattle.lists.proofs.Maps.{map-under, flatMap-suc}
+use Rattle.lists.proofs.Any.{any-map, any-flatMap, any-some, any-at, any-below, any-follows}
 use Rattle.store.specs.Check.{member}
-use Rattle.store.proofs.Members.{all-true, any-map, any-flatMap, any-some, any-at, any-below, any-follows}
-use Rattle.store.proofs.Ascending.{ascending-map}
 
 -- Two ascending lists follow each other where the first is below a number and the second is not.
 pub ascending-append : (t : ℕ) (xs ys : List ℕ) → ascending xs ≡ true → ascending ys ≡ true
@@ -96,7 +95,7 @@ module _ (part : ℕ → List ℕ) where
       ap ascending (keys-suc part n)
       ∙ ascending-append (n * 16777216) (keysOf part n) (map (keyAt n) (part n))
       (keys-ascending n (λ v l. fit v (omega arith)) (λ v l. up v (omega arith)))
-      (ascending-map (λ (k : ℕ). true) (keyAt n) (λ x y s t l. omega arith) (part n) (all-true (part n)) (up n (omega arith)))
+      (ascending-map (λ (k : ℕ). true) (keyAt n) (part n) (all-true (part n)) (λ x y s t l. omega arith) (up n (omega arith)))
       (keys-under n (λ v l. fit v (omega arith)))
       (all-map (λ (k : ℕ). not (ltb k (n * 16777216))) (keyAt n) (part n)
       ∙ all-follows (λ (k : ℕ). true) (λ (k : ℕ). not (ltb (keyAt n k) (n * 16777216))) (part n) (all-true (part n))

@@ -3,22 +3,22 @@
 use mathlib.Core.Path.{_≡_, sym, _∙_, ap}
 use mathlib.Core.Bool.{Bool, true, _&&_}
 use mathlib.Core.List.{List, [], _++_, map}
-use Prim.Native.Nat.{ℕ, suc, _+_, _*_, _%_, _≤_, _<_}
+use Prim.Native.Nat.{ℕ, _+_, _%_, _≤_}
 use native.Mathlib.Omega.{arith}
 use lib.Dec.{eqb, ltb}
 use borrow.Author.Tests.{eqb-true, lt-ltb}
-use Rattle.lists.specs.Lists.{_⇒_, all, any, keep, count, ascending, sort}
+use Rattle.lists.specs.Lists.{_⇒_, all, any, keep, count, ascending}
 use Rattle.lists.proofs.Tests.{imp-intro}
 use Rattle.lists.proofs.All.{all-keep, all-follows}
 use Rattle.lists.proofs.Count.{count-map, count-keep, all-map}
 use Rattle.lists.proofs.Sort.{count-sort, all-sort, ascending-once, ascending-same, sort-ascends}
+use Rattle.lists.proofs.Any.{any-count}
 use Rattle.graph.specs.Graph.{Edge, Graph, Direction, near, entry}
 use Rattle.graph.specs.Store.{storeOf}
 use Rattle.graph.proofs.WellFormed.{WellFormed, Fitting, fitting, fitting-edge, edge-fitting}
 use Rattle.graph.proofs.Keys.{entry-fits, far-in}
 use Rattle.graph.proofs.VertexLists.{listAt, vertex-ascends, vertex-count}
 use Rattle.store.specs.Portion.{listOf}
-use Rattle.store.proofs.Members.{any-count}
 
 -- Counting and testing in a list is counting and testing over the vertex's edges.
 pub list-count : (p : ℕ → Bool) (d : Direction) (g : Graph) (x : ℕ)

@@ -1,83 +1,16 @@
--- Laws of `any`, of what `keep` leaves, and of the members of a list of numbers. Assumes nothing.
+-- Laws of the members of a list of numbers. Assumes nothing.
 use mathlib.Core.Path.{_≡_, refl, sym, _∙_, ap, fun-ext}
-use mathlib.Core.Logic.{_⊎_, inl, inr}
-use mathlib.Core.Bool.{Bool, true, false, _&&_, _||_, and-comm, or-assoc}
-use mathlib.Core.List.{List, [], _∷_, _++_, map, flatMap}
-use Prim.Native.Nat.{ℕ, zero, suc, _+_, _<_}
-use native.Mathlib.Nat.{eq-or-lt-of-le, le-of-suc-le-suc, not-suc-le-zero}
+use mathlib.Core.Bool.{Bool, true, false, _&&_, and-comm}
+use mathlib.Core.List.{List}
+use Prim.Native.Nat.{ℕ, _≤_, _<_}
 use native.Mathlib.Omega.{arith}
 use lib.Dec.{eqb, ltb}
-use borrow.Author.Tests.{ltb-true, lt-ltb}
-use Rattle.lists.specs.Lists.{_⇒_, bit, range, all, any, keep, count, sort}
-use Rattle.lists.proofs.Tests.{clash, and-l, and-r, imp-intro, or-intro-l, or-intro-r, or-elim}
-use Rattle.lists.proofs.All.{all-mem, all-keep, all-follows, all-range}
-use Rattle.lists.proofs.Count.{count-map, count-keep, count-under, count-range-one}
-use Rattle.lists.proofs.Sort.{count-sort}
+use borrow.Author.Tests.{ltb-true, ltb-false}
+use Rattle.lists.specs.Lists.{bit, range, keep, count, ascending, sort}
+use Rattle.lists.proofs.Count.{count-keep, count-range-one}
+use Rattle.lists.proofs.Any.{any-count}
+use Rattle.lists.proofs.Sort.{count-sort, ascending-once, ascending-same}
 use Rattle.store.specs.Check.{member}
-
--- Some element passes where at least one does.
-pub any-count : {A : Type 0} (p : A → Bool) (xs : List A) → any p xs ≡ ltb 0 (count p xs)
-unfolding any count
-any-count p [] = refl
-any-count p (x ∷ xs) = go (p x) (any-count p xs)
-  where
-    go : (b : Bool) → any p xs ≡ ltb 0 (count p xs) → (b || any p xs) ≡ ltb 0 (bit b + count p xs)
-    go true e = sym (lt-ltb 0 (1 + count p xs) (omega arith))
-    go false e = e ∙ ap (ltb 0) (let z : count p xs ≡ 0 + count p xs = omega arith in z)
-
--- Tests that agree on each element that passes s agree on whether some element of a list of such elements passes.
-pub any-under : {A : Type 0} (s p r : A → Bool) (xs : List A) → all s xs ≡ true → ((x : A) → s x ≡ true → p x ≡ r x) → any p xs ≡ any r xs
-any-under s p r xs e h = any-count p xs ∙ ap (ltb 0) (count-under s p r xs e h) ∙ sym (any-count r xs)
-
-pub any-map : {A B : Type 0} (p : B → Bool) (f : A → B) (xs : List A) → any p (map f xs) ≡ any (λ x. p (f x)) xs
-any-map p f xs = any-count p (map f xs) ∙ ap (ltb 0) (count-map p f xs) ∙ sym (any-count (λ x. p (f x)) xs)
-
-pub any-append : {A : Type 0} (p : A → Bool) (xs ys : List A) → any p (xs ++ ys) ≡ (any p xs || any p ys)
-unfolding any
-any-append p [] ys = refl
-any-append p (x ∷ xs) ys = ap (λ (b : Bool). p x || b) (any-append p xs ys) ∙ sym (or-assoc (p x) (any p xs) (any p ys))
-
-pub any-flatMap : {A B : Type 0} (p : B → Bool) (f : A → List B) (xs : List A) → any p (flatMap f xs) ≡ any (λ x. any p (f x)) xs
-unfolding any flatMap
-any-flatMap p f [] = refl
-any-flatMap p f (x ∷ xs) = any-append p (f x) (flatMap f xs) ∙ ap (λ (b : Bool). any p (f x) || b) (any-flatMap p f xs)
-
--- What follows from one element that passes p, in a list of elements that pass s, follows where some element passes.
-pub any-some : {A R : Type 0} (s p : A → Bool) (xs : List A) → all s xs ≡ true → any p xs ≡ true → ((x : A) → s x ≡ true → p x ≡ true → R) → R
-unfolding any all
-any-some s p [] e t h = clash t refl
-any-some s p (x ∷ xs) e t h =
-    or-elim (p x) (any p xs) t (λ u. h x (and-l (s x) (all s xs) e) u) (λ u. any-some s p xs (and-r (s x) (all s xs) e) u h)
-
-pub any-follows : {A : Type 0} (p r : A → Bool) (xs : List A) → any p xs ≡ true → ((x : A) → p x ≡ true → r x ≡ true) → any r xs ≡ true
-unfolding any
-any-follows p r [] t h = t
-any-follows p r (x ∷ xs) t h =
-    or-elim (p x) (any p xs) t (λ u. or-intro-l (r x) (any r xs) (h x u)) (λ u. or-intro-r (r x) (any r xs) (any-follows p r xs u h))
-
-pub all-true : {A : Type 0} (xs : List A) → all (λ x. true) xs ≡ true
-all-true xs = all-mem (λ x. true) xs (λ x m. refl)
-
--- What is kept passes the test, and what all elements pass.
-pub all-kept : {A : Type 0} (s p r : A → Bool) (xs : List A) → all s xs ≡ true → ((x : A) → s x ≡ true → p x ≡ true → r x ≡ true) → all r (keep p xs) ≡ true
-all-kept s p r xs e h = all-keep r p xs ∙ all-follows s (λ x. p x ⇒ r x) xs e (λ x t. imp-intro (p x) (r x) (h x t))
-
-pub kept : {A : Type 0} (p : A → Bool) (xs : List A) → all p (keep p xs) ≡ true
-kept p xs = all-kept (λ x. true) p p xs (all-true xs) (λ x s t. t)
-
--- Some number below n passes where one does, and only there.
-pub any-at : (p : ℕ → Bool) (n k : ℕ) → k < n → p k ≡ true → any p (range n) ≡ true
-unfolding any range
-any-at p zero k h t = absurd (not-suc-le-zero h)
-any-at p (suc n) k h t = any-append p (range n) (n ∷ []) ∙ go (any-at p n k) (eq-or-lt-of-le (le-of-suc-le-suc h))
-  where
-    go : (k < n → p k ≡ true → any p (range n) ≡ true) → (k ≡ n) ⊎ (k < n) → (any p (range n) || (p n || false)) ≡ true
-    go f (inl e) = or-intro-r (any p (range n)) (p n || false) (or-intro-l (p n) false (sym (ap p e) ∙ t))
-    go f (inr l) = or-intro-l (any p (range n)) (p n || false) (f l t)
-
-pub any-below : {R : Type 0} (p : ℕ → Bool) (n : ℕ) → any p (range n) ≡ true → ((k : ℕ) → k < n → p k ≡ true → R) → R
-any-below p n t h =
-    any-some (λ (k : ℕ). ltb k n) p (range n) (all-range (λ (k : ℕ). ltb k n) n (λ k l. lt-ltb k n l)) t (λ k l u. h k (ltb-true k n l) u)
 
 -- The members of the numbers below n that pass a test.
 pub member-range : (p : ℕ → Bool) (n k : ℕ) → member k (keep p (range n)) ≡ (ltb k n && p k)
@@ -96,3 +29,17 @@ member-range p n k =
 pub member-sort : (k : ℕ) (xs : List ℕ) → member k (sort xs) ≡ member k xs
 member-sort k xs =
     any-count (λ (x : ℕ). eqb x k) (sort xs) ∙ ap (ltb 0) (count-sort (λ (x : ℕ). eqb x k) xs) ∙ sym (any-count (λ (x : ℕ). eqb x k) xs)
+
+-- Two ascending lists with the same members are equal.
+pub ascending-members : (xs ys : List ℕ) → ascending xs ≡ true → ascending ys ≡ true
+    → ((k : ℕ) → member k xs ≡ member k ys) → xs ≡ ys
+ascending-members xs ys p q h =
+    ascending-same xs ys p q
+    (λ k. occurs xs p k ∙ ap bit (h k) ∙ sym (occurs ys q k))
+  where
+    once : (n : ℕ) (b : Bool) → n ≤ 1 → ltb 0 n ≡ b → n ≡ bit b
+    once n true l e = let m : 0 < n = ltb-true 0 n e in omega arith
+    once n false l e = let m : n ≤ 0 = ltb-false 0 n e in omega arith
+
+    occurs : (zs : List ℕ) → ascending zs ≡ true → (k : ℕ) → count (λ (z : ℕ). eqb z k) zs ≡ bit (member k zs)
+    occurs zs e k = once (count (λ (z : ℕ). eqb z k) zs) (member k zs) (ascending-once zs e k) (sym (any-count (λ (z : ℕ). eqb z k) zs))

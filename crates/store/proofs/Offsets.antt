@@ -12,7 +12,7 @@ use lib.Seq.{take-add, drop-drop, getD-take, getD-drop, length-take-le}
 use borrow.Author.Tests.{eqb-true, eq-eqb, leb-true, le-leb}
 use Rattle.lists.specs.Lists.{range}
 use Rattle.lists.proofs.Tests.{clash, and-l, and-r, and-both}
-use Rattle.graph.proofs.Maps.{flatMap-suc}
+use Rattle.lists.proofs.Maps.{flatMap-suc}
 use Rattle.store.specs.Side.{listOn, Within}
 use Rattle.store.specs.Check.{risesTo, offsetsFit, offsetsOn}
 

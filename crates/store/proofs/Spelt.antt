@@ -14,18 +14,17 @@ use Rattle.lists.proofs.Tests.{iff, and-l, and-r, and-both}
 use Rattle.lists.proofs.All.{all-at, all-range, all-follows, all-and, map-getD}
 use Rattle.lists.proofs.Count.{all-map, all-flatMap}
 use Rattle.lists.proofs.Sort.{sort-ascending}
+use Rattle.lists.proofs.Maps.{map-under}
 use Rattle.graph.specs.Graph.{Edge, Graph, Direction, forward, backward, key}
 use Rattle.graph.specs.Store.{usedWords, listIn, edgeOf, graphIn, offsets, entries, storeOf, storeFault}
 use Rattle.graph.proofs.WellFormed.{WellFormed, fitting, edge-fitting, formed-well}
-use Rattle.graph.proofs.Maps.{map-under}
 use Rattle.graph.proofs.Keys.{keys-ascend, keys-below}
 use Rattle.graph.proofs.Parts.{offset, side, store-shape}
 use Rattle.graph.proofs.StoreGraph.{store-accepted}
 use Rattle.store.specs.Side.{listOn, verticesIn, edgesIn, sideIn}
 use Rattle.store.specs.Check.{countsFit, labelsFit, offsetsFit, offsetsOn, sideFits, sideGood, GoodSide, member, mirror, listMirrored, sideMirrored, turned}
 use Rattle.store.proofs.Counting.{Counts, counts-fit}
-use Rattle.store.proofs.Members.{member-sort}
-use Rattle.store.proofs.Ascending.{ascending-members}
+use Rattle.store.proofs.Members.{member-sort, ascending-members}
 use Rattle.store.proofs.Accepted.{side-ends}
 use Rattle.store.proofs.KeyLists.{map-flatMap, keyAt, keysOf, Fit, keys-entries, keys-ascending, keys-before, pair-some, some-pair}
 use Rattle.store.proofs.Offsets.{Rising, offsets-rising, offsets-lists, offsets-length}

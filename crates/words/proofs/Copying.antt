@@ -1,11 +1,11 @@
 -- A part after its first i words were written from a source, word by word. Assumes nothing.
-use mathlib.Core.Path.{_≡_, refl, sym, _∙_, ap, subst}
-use mathlib.Core.List.{List, [], _∷_, _++_, append-nil, append-assoc}
-use Prim.Native.Nat.{ℕ, zero, suc, _+_, _-_, _≤_, _<_}
+use mathlib.Core.Path.{_≡_, refl, _∙_, ap, subst}
+use mathlib.Core.List.{List, [], _∷_, _++_, append-assoc}
+use Prim.Native.Nat.{ℕ, suc, _+_, _≤_, _<_}
 use native.Mathlib.Numerals.{add-one}
 use native.Mathlib.Omega.{arith}
-use lib.ListN.{length, getD, take, drop, set, replicate, length-take, length-drop, length-append, length-set, length-replicate}
-use lib.Seq.{length-take-le, take-suc, drop-cons, set-at, getD-drop, getD-append-add, take-all, drop-length}
+use lib.ListN.{length, getD, take, drop, set, length-set}
+use lib.Seq.{length-take-le, take-suc, drop-cons, set-at, getD-drop, getD-append-add}
 
 pub record Copied (src before after : List ℕ) (i : ℕ) : Type 0 where
   pub words : after ≡ take i src ++ drop i before

@@ -4,11 +4,11 @@ use mathlib.Core.Bool.{false, not}
 use lib.Dec.{eqb}
 use lib.Bits.{bitAnd}
 use borrow.Author.Tests.{ne-eqb}
+use Rattle.lists.proofs.Bits.{bit-one, bit-other}
 use Rattle.query.specs.Query.{touches}
 use Rattle.query.specs.Answer.{queryIn}
 use Rattle.query.specs.Mask.{inMask}
 use Rattle.query.proofs.Touch.{touches-mask}
-use Rattle.plan.proofs.Indices.{bit-one, bit-other}
 use borrow.Author.Needs.{needs}
 use Rattle.plan.proofs.rules.extend_fault.Statement.{statement}
 use Rattle.plan.proofs.rules.extend_fault.Tie as tie

@@ -1,16 +1,18 @@
--- Parts of ascending lists, and lists of which nothing is kept. Assumes nothing.
-use mathlib.Core.Path.{_≡_, refl}
-use mathlib.Core.Bool.{Bool, true, false}
-use mathlib.Core.List.{List, [], _∷_}
+-- Laws of ascending lists: their parts, and the numbers below n. Those of what is kept and of images are in `Sort`.
+-- Assumes nothing.
+use mathlib.Core.Path.{_≡_, refl, sym, _∙_, ap}
+use mathlib.Core.Bool.{true, false}
+use mathlib.Core.List.{List, [], _∷_, map-id}
 use Prim.Native.Nat.{ℕ, zero, suc}
 use native.Mathlib.Omega.{arith}
 use lib.Dec.{ltb}
 use lib.ListN.{take, drop}
 use borrow.Author.Tests.{ltb-true, ltb-false, lt-ltb}
-use Rattle.lists.specs.Lists.{all, any, keep, ascendsFrom, ascending}
+use Rattle.lists.specs.Lists.{range, all, ascendsFrom, ascending}
 use Rattle.lists.proofs.Tests.{and-l, and-r, and-both}
 use Rattle.lists.proofs.All.{all-follows}
 use Rattle.lists.proofs.Sort.{ascends-above, ascends-tail}
+use Rattle.lists.proofs.Maps.{ascending-image}
 
 -- A part of an ascending list ascends.
 pub ascending-drop : (n : ℕ) (s : List ℕ) → ascending s ≡ true → ascending (drop n s) ≡ true
@@ -44,14 +46,5 @@ pub ascending-rest : (x w : ℕ) (s : List ℕ) → ascending (w ∷ s) ≡ true
 ascending-rest x w s e h =
     all-follows (ltb w) (ltb x) s (ascending-above w s e) (λ v l. lt-ltb x v (omega (arith, ltb-true w v l, ltb-false w x h)))
 
-module _ {A : Type 0} where
-  -- Where the elements pass a test r that those of p fail, nothing is kept, and there is none.
-  pub keep-none : (p r : A → Bool) (xs : List A) → all r xs ≡ true → ((x : A) → r x ≡ true → p x ≡ false) → keep p xs ≡ []
-  unfolding all keep
-  keep-none p r [] e h = refl
-  keep-none p r (x ∷ xs) e h = rw (h x (and-l (r x) (all r xs) e)) (keep-none p r xs (and-r (r x) (all r xs) e) h)
-
-  pub any-fails : (p r : A → Bool) (xs : List A) → all r xs ≡ true → ((x : A) → r x ≡ true → p x ≡ false) → any p xs ≡ false
-  unfolding all any
-  any-fails p r [] e h = refl
-  any-fails p r (x ∷ xs) e h = rw (h x (and-l (r x) (all r xs) e)) (any-fails p r xs (and-r (r x) (all r xs) e) h)
+pub ascending-range : (n : ℕ) → ascending (range n) ≡ true
+ascending-range n = ap ascending (sym (map-id (range n))) ∙ ascending-image (λ (i : ℕ). i) n (λ i h. omega arith)

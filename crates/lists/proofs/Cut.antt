@@ -8,30 +8,12 @@ use lib.Dec.{ltb}
 use lib.ListN.{length, take, drop, length-append}
 use lib.Seq.{take-at, drop-at}
 use borrow.Author.Tests.{ltb-true, lt-ltb, le-ltb, ltb-false}
-use Rattle.lists.specs.Lists.{_⇒_, range, all, keep, count, ascending}
-use Rattle.lists.proofs.Tests.{iff, and-l, and-both, imp-intro}
-use Rattle.lists.proofs.All.{all-keep, keep-ext, keep-keep, keep-under, keep-append}
+use Rattle.lists.specs.Lists.{range, keep, count, ascending}
+use Rattle.lists.proofs.Tests.{iff, and-l, and-both}
+use Rattle.lists.proofs.All.{all-true, keep-none, keep-ext, keep-keep, keep-append}
 use Rattle.lists.proofs.Count.{all-map, length-keep}
 use Rattle.lists.proofs.Sort.{ascends-above, ascends-tail}
-use Rattle.graph.proofs.Maps.{flatMap-suc}
-
-module _ {A : Type 0} where
-  pub all-kept : (p : A → Bool) (xs : List A) → all p (keep p xs) ≡ true
-  unfolding all
-  all-kept p xs = all-keep p p xs ∙ always xs
-    where
-      always : (ys : List A) → all (λ x. p x ⇒ p x) ys ≡ true
-      always [] = refl
-      always (y ∷ ys) = and-both (p y ⇒ p y) _ (imp-intro (p y) (p y) (λ i. i)) (always ys)
-
-  pub keep-none : (xs : List A) → keep (λ x. false) xs ≡ []
-  unfolding keep
-  keep-none [] = refl
-  keep-none (x ∷ xs) = keep-none xs
-
-  -- A test that all fail keeps nothing.
-  pub keep-empty : (s p : A → Bool) (xs : List A) → all s xs ≡ true → ((x : A) → s x ≡ true → p x ≡ false) → keep p xs ≡ []
-  keep-empty s p xs e h = keep-under s p (λ x. false) xs e h ∙ keep-none xs
+use Rattle.lists.proofs.Maps.{flatMap-suc}
 
 module _ {A : Type 0} (f : A → ℕ) where
   -- The elements below t stand before the others.
@@ -51,7 +33,7 @@ module _ {A : Type 0} (f : A → ℕ) where
         where
           none : keep low xs ≡ []
           none =
-              keep-empty (λ y. ltb (f x) (f y)) low xs (sym (all-map (ltb (f x)) f xs) ∙ ascends-above (f x) (map f xs) e)
+              keep-none low (λ y. ltb (f x) (f y)) xs (sym (all-map (ltb (f x)) f xs) ∙ ascends-above (f x) (map f xs) e)
               (λ y l.
               let a : t ≤ f x = ltb-false (f x) t i in
               let b : f x < f y = ltb-true (f x) (f y) l in
@@ -114,7 +96,7 @@ module _ {A : Type 0} (f : A → ℕ) where
   cut-parts xs e t z rise part zero h = rw z (sym (none xs))
     where
       none : (ys : List A) → keep (λ x. ltb (f x) 0) ys ≡ []
-      none ys = keep-ext (λ x. ltb (f x) 0) (λ x. false) ys (λ x. le-ltb (f x) 0 (omega arith)) ∙ keep-none ys
+      none ys = keep-none (λ x. ltb (f x) 0) (λ x. true) ys (all-true ys) (λ x t. le-ltb (f x) 0 (omega arith))
   cut-parts xs e t z rise part (suc n) h =
       flatMap-suc part n ∙ ap₂ (λ (l m : List A). l ++ m) (cut-parts xs e t z rise part n (λ v l. h v (omega arith))) (h n (omega arith))
       ∙ sym (keep-below xs (t n) (t (suc n)) e (rise n))

@@ -1,18 +1,25 @@
--- Laws of `map` and `flatMap` with `take`, `drop`, `keep`, `range` and an index. Assumes nothing.
+-- Laws of `map` and `flatMap` with `take`, `drop`, `keep` and an index, and of images of the numbers below n. Assumes nothing.
 use mathlib.Core.Path.{_≡_, refl, sym, _∙_, ap, ap₂}
 use mathlib.Core.Bool.{Bool, true, false, cond}
-use mathlib.Core.List.{List, [], _∷_, _++_, map, flatMap, append-assoc, append-nil}
+use mathlib.Core.List.{List, [], _∷_, _++_, map, flatMap, map-append, append-assoc, append-nil}
 use Prim.Native.Nat.{ℕ, zero, suc, _<_}
 use native.Mathlib.Omega.{arith}
+use lib.Dec.{ltb}
 use lib.ListN.{length, getD, take, drop, length-map}
 use lib.Seq.{ext-getD}
+use borrow.Author.Tests.{ltb-true, lt-ltb}
 use Rattle.lists.specs.Lists.{range, all, keep, ascending}
 use Rattle.lists.proofs.Tests.{and-l, and-r}
-use Rattle.lists.proofs.All.{length-range, getD-range}
+use Rattle.lists.proofs.All.{length-range, getD-range, all-range}
 use Rattle.lists.proofs.Sort.{at-ascending, ascending-at}
-use Rattle.packed.proofs.Encoded.{getD-image}
 
 module _ {A B : Type 0} where
+  -- An element of an image, whatever stands past the end of either list.
+  pub getD-map : (f : A → B) (xs : List A) (i : ℕ) (d : A) (e : B) → i < length xs → getD (map f xs) i e ≡ f (getD xs i d)
+  getD-map f [] i d e h = absurd (omega arith)
+  getD-map f (x ∷ xs) zero d e h = refl
+  getD-map f (x ∷ xs) (suc i) d e h = getD-map f xs i d e (omega arith)
+
   pub take-map : (f : A → B) (n : ℕ) (xs : List A) → take n (map f xs) ≡ map f (take n xs)
   take-map f zero [] = refl
   take-map f zero (x ∷ xs) = refl
@@ -49,16 +56,27 @@ module _ {A B : Type 0} where
       ap (λ (l : List B). f x ++ l) (flatMap-append f xs ys) ∙ sym (append-assoc (f x) (flatMap f xs) (flatMap f ys))
 
 module _ {B : Type 0} where
-  pub getD-map-range : (f : ℕ → B) (n i : ℕ) (b : B) → i < n → getD (map f (range n)) i b ≡ f i
-  getD-map-range f n i b h = getD-image f (range n) i 0 b (rw length-range h) ∙ ap f (getD-range n i h)
+  pub length-image : (f : ℕ → B) (n : ℕ) → length (map f (range n)) ≡ n
+  length-image f n = length-map (range n) f ∙ length-range n
+
+  pub getD-image : (f : ℕ → B) (n i : ℕ) (b : B) → i < n → getD (map f (range n)) i b ≡ f i
+  getD-image f n i b h = getD-map f (range n) i 0 b (rw length-range h) ∙ ap f (getD-range n i h)
+
+  pub image-suc : (f : ℕ → B) (n : ℕ) → map f (range (suc n)) ≡ map f (range n) ++ (f n ∷ [])
+  unfolding range
+  image-suc f n = map-append f (range n) (n ∷ [])
+
+  pub image-ext : (f h : ℕ → B) (n : ℕ) → ((i : ℕ) → i < n → f i ≡ h i) → map f (range n) ≡ map h (range n)
+  image-ext f h n e =
+      map-under (λ (i : ℕ). ltb i n) f h (range n) (all-range (λ (i : ℕ). ltb i n) n (λ i l. lt-ltb i n l)) (λ i t. e i (ltb-true i n t))
 
   -- A list is the image of its indices.
   pub map-indices : (f : ℕ → B) (xs : List B) (b : B) → ((i : ℕ) → i < length xs → f i ≡ getD xs i b) → map f (range (length xs)) ≡ xs
   map-indices f xs b h =
-      ext-getD b (map f (range (length xs))) xs (length-map (range (length xs)) f ∙ length-range (length xs))
+      ext-getD b (map f (range (length xs))) xs (length-image f (length xs))
       (λ i l.
-      let m : i < length xs = rw (length-map, length-range) at l in
-      getD-map-range f (length xs) i b m ∙ h i m)
+      let m : i < length xs = rw length-image at l in
+      getD-image f (length xs) i b m ∙ h i m)
 
   pub flatMap-suc : (f : ℕ → List B) (n : ℕ) → flatMap f (range (suc n)) ≡ flatMap f (range n) ++ f n
   unfolding range flatMap
@@ -69,10 +87,10 @@ pub ascending-image : (f : ℕ → ℕ) (n : ℕ) → ((i : ℕ) → suc i < n �
 ascending-image f n h =
     at-ascending (map f (range n))
     (λ i l.
-    let m : suc i < n = rw (length-map, length-range) at l in
-    rw (getD-map-range f n i 0 (omega arith), getD-map-range f n (suc i) 0 m) (h i m))
+    let m : suc i < n = rw length-image at l in
+    rw (getD-image f n i 0 (omega arith), getD-image f n (suc i) 0 m) (h i m))
 
 pub image-ascending : (f : ℕ → ℕ) (n : ℕ) → ascending (map f (range n)) ≡ true → (i : ℕ) → suc i < n → f i < f (suc i)
 image-ascending f n e i h =
-    rw (getD-map-range f n i 0 (omega arith), getD-map-range f n (suc i) 0 h) at
-    (ascending-at (map f (range n)) e i (rw (length-map, length-range) h))
+    rw (getD-image f n i 0 (omega arith), getD-image f n (suc i) 0 h) at
+    (ascending-at (map f (range n)) e i (rw length-image h))
