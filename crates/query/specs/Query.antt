@@ -1,8 +1,8 @@
 -- A query: a small labelled graph whose vertices are to be matched. Assumes nothing.
-use mathlib.Core.Bool.{Bool, _&&_, _||_}
+use mathlib.Core.Bool.{Bool, not, _&&_, _||_}
 use mathlib.Core.List.{List, [], _∷_}
 use Prim.Native.Nat.{ℕ, zero, suc}
-use lib.Dec.{eqb}
+use lib.Dec.{eqb, ltb}
 use lib.ListN.{getD}
 use Rattle.lists.specs.Lists.{range, all, any, keep}
 use Rattle.graph.specs.Graph.{Edge}
@@ -46,6 +46,13 @@ reached q zero = 0 ∷ []
 reached q (suc k) =
     let seen = reached q k in
     keep (λ (w : ℕ). among seen w || touches q w (among seen)) (range (q .vertices))
+
+-- An edge of a query of n vertices that was read: both ends below n, and not equal; and a label of a byte.
+abbrev pub properEdge : ℕ → Edge → Bool
+properEdge n e = ltb (e .source) n && ltb (e .target) n && not (eqb (e .source) (e .target))
+
+abbrev pub byteLabel : Edge → Bool
+byteLabel e = ltb (e .label) 256
 
 -- 'Ignoring direction, the query is connected.'
 unfoldable pub connected : Query → Bool
