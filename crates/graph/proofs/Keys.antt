@@ -1,14 +1,14 @@
 -- Keys and entries of the edges of a well-formed graph: what they tell, and that the sorted keys ascend. Assumes nothing.
 use mathlib.Core.Path.{_≡_, refl, sym, _∙_, ap}
-use mathlib.Core.Bool.{Bool, true, false, not, _&&_}
-use mathlib.Core.List.{List, [], _∷_, map, map-map}
+use mathlib.Core.Bool.{Bool, true, not, _&&_}
+use mathlib.Core.List.{List, map, map-map}
 use Prim.Native.Nat.{ℕ, suc, _+_, _*_, _/_, _%_, _≤_, _<_}
 use native.Mathlib.Omega.{arith}
 use lib.Dec.{eqb, ltb}
 use borrow.Author.Tests.{eqb-true, eq-eqb, ltb-true, lt-ltb, le-ltb, ltb-false}
-use Rattle.lists.specs.Lists.{bit, all, count, ascending, sort}
+use Rattle.lists.specs.Lists.{count, ascending, sort}
 use Rattle.lists.proofs.Tests.{iff, and-l, and-r, not-true}
-use Rattle.lists.proofs.Count.{count-map, count-under}
+use Rattle.lists.proofs.Count.{count-map, count-under, count-mono}
 use Rattle.lists.proofs.Sort.{ascending-once, sort-ascending, sort-ascends, count-sort}
 use Rattle.lists.proofs.Maps.{map-under}
 use Rattle.graph.specs.Graph.{Edge, Graph, Direction, forward, backward, near, far, entry, key}
@@ -85,17 +85,6 @@ unfolding forwardKey
 forward-key g w forward e t = refl
 forward-key g w backward e t =
     rw (key-entry g w backward e t, key-near g w backward e t, entry-label g w backward e t, entry-far g w backward e t)
-
--- Where what passes s and p passes r, r counts no less than p in a list of what passes s.
-pub count-mono : {A : Type 0} (s p r : A → Bool) (xs : List A) → all s xs ≡ true → ((x : A) → s x ≡ true → p x ≡ true → r x ≡ true)
-    → count p xs ≤ count r xs
-unfolding all count
-count-mono s p r [] e h = omega arith
-count-mono s p r (x ∷ xs) e h = go (p x) refl (count-mono s p r xs (and-r (s x) (all s xs) e) h)
-  where
-    go : (b : Bool) → p x ≡ b → count p xs ≤ count r xs → bit b + count p xs ≤ bit (r x) + count r xs
-    go true i l = rw (h x (and-l (s x) (all s xs) e) i) (omega arith)
-    go false i l = omega arith
 
 -- The keys of the edges in one direction, ascending.
 abbrev pub sortedKeys : Direction → Graph → List ℕ

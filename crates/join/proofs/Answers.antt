@@ -22,14 +22,14 @@ use Rattle.matching.specs.Row.{width, pack, rowsOf}
 use Rattle.matching.proofs.Rows.{isRow, pack-row}
 use Rattle.operators.specs.Join.{joined, partners, joinRows, heads}
 use Rattle.operators.specs.Written.{Written}
-use Rattle.rows.proofs.Widths.{width-past, width-zero, width-suc}
+use Rattle.rows.proofs.Widths.{width-past, width-zero, width-suc, row-is}
 use Rattle.rows.proofs.Laid.{rows-wide, length-flatten}
 use Rattle.join.specs.Place.{buildRows}
 use Rattle.join.specs.Joined.{probeWords, Filled}
 use Rattle.join.specs.Operands.{Operands, Members, IsLayout, columnsFor}
 use Rattle.join.specs.declared.Layout.{Layout}
 use Rattle.join.specs.declared.Reached.{Reached}
-use Rattle.join.proofs.Meaning.{row-is, both-width, words-are}
+use Rattle.join.proofs.Meaning.{both-width, words-are}
 
 -- Operands over n vertices, as a pile of a query has them.
 pub operands-for : (n b p base builds probes top words : ℕ) → n ≤ maxVertices → Members n b → Members n p → 0 < width n (inMask b)

@@ -131,6 +131,11 @@ module _ {A : Type 0} where
   keep-none p r [] e h = refl
   keep-none p r (x ∷ xs) e h = rw (h x (and-l (r x) (all r xs) e)) (keep-none p r xs (and-r (r x) (all r xs) e) h)
 
+  pub keep-nothing : (p : A → Bool) (xs : List A) (d : A) → ((k : ℕ) → k < length xs → p (getD xs k d) ≡ false) → keep p xs ≡ []
+  unfolding keep
+  keep-nothing p [] d h = refl
+  keep-nothing p (x ∷ xs) d h = rw (h 0 (omega arith)) (keep-nothing p xs d (λ k l. h (suc k) (omega arith)))
+
   pub all-true : (xs : List A) → all (λ x. true) xs ≡ true
   all-true xs = all-mem (λ x. true) xs (λ x m. refl)
 

@@ -8,10 +8,10 @@ use native.Mathlib.Nat.{eq-or-lt-of-le, le-of-suc-le-suc, not-suc-le-zero}
 use native.Mathlib.Omega.{arith}
 use lib.Dec.{ltb}
 use borrow.Author.Tests.{ltb-true, lt-ltb}
-use Rattle.lists.specs.Lists.{bit, range, all, any, count}
+use Rattle.lists.specs.Lists.{bit, range, all, any, keep, count}
 use Rattle.lists.proofs.Tests.{clash, and-l, and-r, or-intro-l, or-intro-r, or-elim}
-use Rattle.lists.proofs.All.{all-range}
-use Rattle.lists.proofs.Count.{count-map, count-under}
+use Rattle.lists.proofs.All.{all-true, all-range}
+use Rattle.lists.proofs.Count.{count-map, count-keep, count-under}
 use Rattle.lists.proofs.Maps.{image-suc}
 
 -- Some element passes where at least one does.
@@ -40,6 +40,13 @@ pub any-flatMap : {A B : Type 0} (p : B → Bool) (f : A → List B) (xs : List 
 unfolding any flatMap
 any-flatMap p f [] = refl
 any-flatMap p f (x ∷ xs) = any-append p (f x) (flatMap f xs) ∙ ap (λ (b : Bool). any p (f x) || b) (any-flatMap p f xs)
+
+-- Some element passes among those that are kept.
+pub any-keep : {A : Type 0} (p r : A → Bool) (xs : List A) → any p (keep r xs) ≡ any (λ x. r x && p x) xs
+any-keep p r xs = any-count p (keep r xs) ∙ ap (ltb 0) (count-keep p r xs) ∙ sym (any-count (λ x. r x && p x) xs)
+
+pub any-ext : {A : Type 0} (p r : A → Bool) (xs : List A) → ((x : A) → p x ≡ r x) → any p xs ≡ any r xs
+any-ext p r xs h = any-under (λ x. true) p r xs (all-true xs) (λ x t. h x)
 
 -- What follows from one element that passes p, in a list of elements that pass s, follows where some element passes.
 pub any-some : {A R : Type 0} (s p : A → Bool) (xs : List A) → all s xs ≡ true → any p xs ≡ true → ((x : A) → s x ≡ true → p x ≡ true → R) → R

@@ -3,11 +3,12 @@ use mathlib.Core.Path.{_≡_, refl, sym, _∙_, ap, ap₂, fun-ext}
 use mathlib.Core.Logic.{_⊎_, inl, inr}
 use mathlib.Core.Bool.{Bool, true, false, cond, _&&_, and-true, and-false}
 use mathlib.Core.List.{List, [], _∷_, _++_, map, flatMap, List·Memᴰ, List·Memᴰ·head, List·Memᴰ·tail}
-use Prim.Native.Nat.{ℕ, zero, suc, _+_, _≤_, _<_}
-use native.Mathlib.Nat.{zero-add, add-zero, add-assoc, eq-or-lt-of-le, le-of-suc-le-suc}
+use Prim.Native.Nat.{ℕ, zero, suc, _+_, _*_, _≤_, _<_}
+use native.Mathlib.Nat.{zero-add, add-zero, add-assoc, add-comm, eq-or-lt-of-le, le-of-suc-le-suc}
+use native.Mathlib.Numerals.{add-one}
 use native.Mathlib.Omega.{arith}
 use lib.Dec.{eqb, ltb}
-use lib.ListN.{length}
+use lib.ListN.{length, getD, take}
 use borrow.Author.Tests.{eqb-true, ltb-true, lt-ltb, le-ltb}
 use Rattle.lists.specs.Lists.{bit, range, all, keep, count, total}
 use Rattle.lists.proofs.All.{all-append}
@@ -196,3 +197,50 @@ total-mono f i (suc n) h = go (total-mono f i n) (eq-or-lt-of-le h)
     go : (i ≤ n → total f (range i) ≤ total f (range n)) → (i ≡ suc n) ⊎ (i < suc n) → total f (range i) ≤ total f (range (suc n))
     go g (inl e) = rw e (omega arith)
     go g (inr l) = omega (arith, total-suc f n, g (le-of-suc-le-suc l))
+
+-- Where what passes s and p passes r, r counts no less than p in a list of what passes s.
+pub count-mono : {A : Type 0} (s p r : A → Bool) (xs : List A) → all s xs ≡ true → ((x : A) → s x ≡ true → p x ≡ true → r x ≡ true)
+    → count p xs ≤ count r xs
+unfolding all count
+count-mono s p r [] e h = omega arith
+count-mono s p r (x ∷ xs) e h = go (p x) refl (count-mono s p r xs (and-r (s x) (all s xs) e) h)
+  where
+    go : (b : Bool) → p x ≡ b → count p xs ≤ count r xs → bit b + count p xs ≤ bit (r x) + count r xs
+    go true i l = rw (h x (and-l (s x) (all s xs) e) i) (omega arith)
+    go false i l = omega arith
+
+-- A test that passes where one of two tests does, and no two do, counts their sum.
+pub count-sum : {A : Type 0} (c a b : A → Bool) (xs : List A) → ((x : A) → bit (c x) ≡ bit (a x) + bit (b x)) → count c xs ≡ count a xs + count b xs
+unfolding count
+count-sum c a b [] h = refl
+count-sum c a b (x ∷ xs) h = let e : count c xs ≡ count a xs + count b xs = count-sum c a b xs h in omega (arith, h x)
+
+-- An element that passes a test stands, of those that pass, after as many as pass before it.
+pub keep-at : (p : ℕ → Bool) (xs : List ℕ) (i : ℕ) → i < length xs → p (getD xs i 0) ≡ true
+    → getD (keep p xs) (count p (take i xs)) 0 ≡ getD xs i 0
+unfolding keep count
+keep-at p [] i h e = absurd (omega arith)
+keep-at p (x ∷ xs) zero h e = rw e
+keep-at p (x ∷ xs) (suc i) h e = go (p x) (keep-at p xs i (le-of-suc-le-suc h) e)
+  where
+    go : (b : Bool) → getD (keep p xs) (count p (take i xs)) 0 ≡ getD xs i 0
+        → getD (cond b (x ∷ keep p xs) (keep p xs)) (bit b + count p (take i xs)) 0 ≡ getD xs i 0
+    go true k = rw (add-comm 1 (count p (take i xs)), add-one (count p (take i xs))) k
+    go false k = rw (zero-add (count p (take i xs))) k
+
+-- Fewer pass before an element that passes than pass in all.
+pub count-before : (p : ℕ → Bool) (xs : List ℕ) (i : ℕ) → i < length xs → p (getD xs i 0) ≡ true → count p (take i xs) < count p xs
+unfolding count
+count-before p [] i h e = absurd (omega arith)
+count-before p (x ∷ xs) zero h e = rw e (omega arith)
+count-before p (x ∷ xs) (suc i) h e = omega (arith, count-before p xs i (le-of-suc-le-suc h) e)
+
+pub total-map : {A B : Type 0} (t : B → ℕ) (f : A → B) (xs : List A) → total t (map f xs) ≡ total (λ x. t (f x)) xs
+unfolding total
+total-map t f [] = refl
+total-map t f (x ∷ xs) = ap (λ (k : ℕ). t (f x) + k) (total-map t f xs)
+
+pub total-most : (f : ℕ → ℕ) (most n : ℕ) → ((k : ℕ) → k < n → f k ≤ most) → total f (range n) ≤ n * most
+unfolding range total
+total-most f most zero h = omega arith
+total-most f most (suc n) h = rw (total-suc f n) (omega (arith, total-most f most n (λ k l. h k (omega arith)), h n (omega arith)))

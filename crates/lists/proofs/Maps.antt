@@ -55,6 +55,15 @@ module _ {A B : Type 0} where
   flatMap-append f (x ∷ xs) ys =
       ap (λ (l : List B). f x ++ l) (flatMap-append f xs ys) ∙ sym (append-assoc (f x) (flatMap f xs) (flatMap f ys))
 
+  pub flatMap-snoc : (f : A → List B) (xs : List A) (x : A) → flatMap f (xs ++ (x ∷ [])) ≡ flatMap f xs ++ f x
+  unfolding flatMap
+  flatMap-snoc f xs x = flatMap-append f xs (x ∷ []) ∙ ap (λ (l : List B). flatMap f xs ++ l) (append-nil (f x))
+
+pub map-flatMap : {A B C : Type 0} (f : B → C) (h : A → List B) (xs : List A) → map f (flatMap h xs) ≡ flatMap (λ x. map f (h x)) xs
+unfolding flatMap
+map-flatMap f h [] = refl
+map-flatMap f h (x ∷ xs) = map-append f (h x) (flatMap h xs) ∙ ap (λ (l : List _). map f (h x) ++ l) (map-flatMap f h xs)
+
 module _ {B : Type 0} where
   pub length-image : (f : ℕ → B) (n : ℕ) → length (map f (range n)) ≡ n
   length-image f n = length-map (range n) f ∙ length-range n
@@ -79,8 +88,14 @@ module _ {B : Type 0} where
       getD-image f (length xs) i b m ∙ h i m)
 
   pub flatMap-suc : (f : ℕ → List B) (n : ℕ) → flatMap f (range (suc n)) ≡ flatMap f (range n) ++ f n
-  unfolding range flatMap
-  flatMap-suc f n = flatMap-append f (range n) (n ∷ []) ∙ ap (λ (l : List B). flatMap f (range n) ++ l) (append-nil (f n))
+  unfolding range
+  flatMap-suc f n = flatMap-snoc f (range n) n
+
+  pub flatMap-range-ext : (f h : ℕ → List B) (n : ℕ) → ((k : ℕ) → k < n → f k ≡ h k) → flatMap f (range n) ≡ flatMap h (range n)
+  unfolding flatMap range
+  flatMap-range-ext f h zero e = refl
+  flatMap-range-ext f h (suc n) e =
+      flatMap-suc f n ∙ ap₂ (λ (a b : List B). a ++ b) (flatMap-range-ext f h n (λ i l. e i (omega arith))) (e n (omega arith)) ∙ sym (flatMap-suc h n)
 
 -- The image of the numbers below n ascends where the function rises at each step.
 pub ascending-image : (f : ℕ → ℕ) (n : ℕ) → ((i : ℕ) → suc i < n → f i < f (suc i)) → ascending (map f (range n)) ≡ true

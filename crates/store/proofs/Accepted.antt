@@ -8,11 +8,10 @@ use lib.Dec.{ltb}
 use lib.ListN.{length, getD, take, drop, take-append-drop, length-append}
 use borrow.Author.Tests.{ltb-true, lt-ltb}
 use Rattle.lists.specs.Lists.{ascending}
-use Rattle.lists.proofs.Count.{count-le}
+use Rattle.lists.proofs.Count.{count-le, count-mono}
 use Rattle.graph.specs.Graph.{Edge, Graph, Direction, forward, backward, near}
 use Rattle.graph.specs.Store.{storeOf, storeSize, sideAt, usedWords, graphIn, storeFault}
 use Rattle.graph.proofs.WellFormed.{WellFormed, fitting, well-formed}
-use Rattle.graph.proofs.Keys.{count-mono}
 use Rattle.graph.proofs.Parts.{offset, sideStart, length-store, store-offset}
 use Rattle.graph.proofs.Loads.{store-formed}
 use Rattle.store.specs.Side.{listOn, Within, verticesIn, edgesIn, sideIn, Lookup}
@@ -103,3 +102,12 @@ module _ (store : List ℕ) (n side v : ℕ) (asked : Lookup store n side v) whe
   pub lookup-ascends : ascending (listOn store n side v) ≡ true
   lookup-ascends =
       ap ascending (lookup-list (asked .direction) (asked .begins)) ∙ list-ascends (graphIn store) (graph-formed store (asked .accepted)) (asked .direction) v
+
+-- The counts of an accepted store are small, and it has them.
+pub store-counts : (store : List ℕ) → storeFault store ≡ 0 → (2 ≤ length store) × (getD store 0 0 ≤ 4294967295) × (getD store 1 0 ≤ 4294967295)
+store-counts store e =
+    let formed = graph-formed store e in (
+      omega (arith, store-length store e),
+      omega (arith, store-vertices store e, formed .few-vertices),
+      omega (arith, store-edges store e, formed .few-edges),
+    )

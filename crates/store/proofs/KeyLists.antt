@@ -2,42 +2,22 @@
 use mathlib.Core.Path.{_≡_, refl, sym, _∙_, ap, ap₂}
 use mathlib.Core.Logic.{_⊎_, inl, inr}
 use mathlib.Core.Bool.{Bool, true, not}
-use mathlib.Core.List.{List, [], _∷_, _++_, map, map-map, map-id, map-append, flatMap}
+use mathlib.Core.List.{List, _++_, map, map-map, map-id, map-append, flatMap}
 use Prim.Native.Nat.{ℕ, zero, suc, _+_, _*_, _%_, _≤_, _<_}
 use native.Mathlib.Nat.{eq-or-lt-of-le, add-zero}
 use native.Mathlib.Omega.{arith}
 use lib.Dec.{eqb, ltb}
 use lib.ListN.{length, length-map}
-use borrow.Author.Tests.{eqb-true, eq-eqb, ltb-true, ltb-false, lt-ltb, le-ltb}
+use borrow.Author.Tests.{eqb-true, eq-eqb, ltb-true, lt-ltb, le-ltb}
 use Rattle.lists.specs.Lists.{range, all, count, ascending}
-use Rattle.lists.proofs.Tests.{and-l, and-r, and-both, not-true}
+use Rattle.lists.proofs.Tests.{and-both}
 use Rattle.lists.proofs.All.{all-append, all-follows, all-true}
 use Rattle.lists.proofs.Count.{all-map, count-append, count-map, count-none, count-all}
-use Rattle.lists.proofs.Sort.{ascends-from, ascends-tail, ascends-above, ascending-map}
+use Rattle.lists.proofs.Sort.{ascending-map}
 use Rattle.lists.proofs.Maps.{map-under, flatMap-suc}
 use Rattle.lists.proofs.Any.{any-map, any-flatMap, any-some, any-at, any-below, any-follows}
+use Rattle.lists.proofs.Ascending.{ascending-append}
 use Rattle.store.specs.Check.{member}
-
--- Two ascending lists follow each other where the first is below a number and the second is not.
-pub ascending-append : (t : ℕ) (xs ys : List ℕ) → ascending xs ≡ true → ascending ys ≡ true
-    → all (λ (x : ℕ). ltb x t) xs ≡ true → all (λ (y : ℕ). not (ltb y t)) ys ≡ true → ascending (xs ++ ys) ≡ true
-unfolding ascending all
-ascending-append t [] ys p q a b = q
-ascending-append t (x ∷ xs) ys p q a b =
-    ascends-from x (xs ++ ys)
-    (ascending-append t xs ys (ascends-tail x xs p) q (and-r (ltb x t) (all (λ (x : ℕ). ltb x t) xs) a) b)
-    (all-append (λ (y : ℕ). ltb x y) xs ys
-    ∙ and-both (all (λ (y : ℕ). ltb x y) xs) (all (λ (y : ℕ). ltb x y) ys) (ascends-above x xs p)
-    (all-follows (λ (y : ℕ). not (ltb y t)) (λ (y : ℕ). ltb x y) ys b
-    (λ y h.
-    let i : x < t = ltb-true x t (and-l (ltb x t) (all (λ (x : ℕ). ltb x t) xs) a) in
-    let j : t ≤ y = ltb-false y t (not-true (ltb y t) h) in
-    lt-ltb x y (omega arith))))
-
-pub map-flatMap : {A B C : Type 0} (f : B → C) (h : A → List B) (xs : List A) → map f (flatMap h xs) ≡ flatMap (λ x. map f (h x)) xs
-unfolding flatMap
-map-flatMap f h [] = refl
-map-flatMap f h (x ∷ xs) = map-append f (h x) (flatMap h xs) ∙ ap (λ (l : List _). map f (h x) ++ l) (map-flatMap f h xs)
 
 -- The key of entry k of vertex v.
 abbrev pub keyAt : ℕ → ℕ → ℕ

@@ -13,6 +13,7 @@ use borrow.Author.Tests.{eq-eqb, ne-eqb, lt-ltb, le-ltb, le-leb, lt-leb}
 use Rattle.lists.specs.Lists.{bit, range, all, any, ascendsFrom}
 use Rattle.lists.proofs.Tests.{clash, fails, and-both, eqb-sym}
 use Rattle.lists.proofs.All.{all-at, all-append, all-getD}
+use Rattle.lists.proofs.Bits.{bit-none, bit-some}
 use Rattle.store.specs.Check.{unless, member, risesTo, offsetsFit, listFits}
 
 -- ---- refusals
@@ -32,24 +33,16 @@ pub answer-fails : (b : Bool) {r : ℕ} → r ≡ unless b → (r ≡ 0 → ⊥)
 answer-fails true e h = absurd (h e)
 answer-fails false e h = refl
 
--- The answer to a test is told by its bit, as that of a search for a word.
-bit-refused : (b : Bool) {r : ℕ} → r ≡ bit b → r ≡ 0 → 19 ≡ unless b
-bit-refused true e z = absurd (omega arith)
-bit-refused false e z = refl
-
-bit-passes : (b : Bool) {r : ℕ} → r ≡ bit b → (r ≡ 0 → ⊥) → 0 ≡ unless b
-bit-passes true e f = refl
-bit-passes false e f = absurd (f e)
-
+-- The answer of a search for a word tells whether it is a member.
 module _ (x : ℕ) (s : List ℕ) {r : ℕ} (e : r ≡ bit (any (eqb x) s)) where
   is-member : any (eqb x) s ≡ member x s
   is-member = ap (λ (t : ℕ → Bool). any t s) (fun-ext (eqb-sym x))
 
   pub absent : r ≡ 0 → 19 ≡ unless (member x s)
-  absent z = bit-refused (any (eqb x) s) e z ∙ ap unless is-member
+  absent z = refused (sym is-member ∙ bit-none (any (eqb x) s) e z)
 
   pub present : (r ≡ 0 → ⊥) → 0 ≡ unless (member x s)
-  present f = bit-passes (any (eqb x) s) e f ∙ ap unless is-member
+  present f = passes (sym is-member ∙ bit-some (any (eqb x) s) e f)
 
 -- The answer to a test that failed is the answer to one that fails with it.
 pub answer-hands : (a b : Bool) {r : ℕ} → r ≡ unless a → (r ≡ 0 → ⊥) → (b ≡ true → a ≡ true) → r ≡ unless b

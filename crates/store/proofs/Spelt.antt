@@ -14,7 +14,7 @@ use Rattle.lists.proofs.Tests.{iff, and-l, and-r, and-both}
 use Rattle.lists.proofs.All.{all-at, all-range, all-follows, all-and, map-getD}
 use Rattle.lists.proofs.Count.{all-map, all-flatMap}
 use Rattle.lists.proofs.Sort.{sort-ascending}
-use Rattle.lists.proofs.Maps.{map-under}
+use Rattle.lists.proofs.Maps.{map-under, map-flatMap}
 use Rattle.graph.specs.Graph.{Edge, Graph, Direction, forward, backward, key}
 use Rattle.graph.specs.Store.{usedWords, listIn, edgeOf, graphIn, offsets, entries, storeOf, storeFault}
 use Rattle.graph.proofs.WellFormed.{WellFormed, fitting, edge-fitting, formed-well}
@@ -26,7 +26,7 @@ use Rattle.store.specs.Check.{countsFit, labelsFit, offsetsFit, offsetsO
 use Rattle.store.proofs.Counting.{Counts, counts-fit}
 use Rattle.store.proofs.Members.{member-sort, ascending-members}
 use Rattle.store.proofs.Accepted.{side-ends}
-use Rattle.store.proofs.KeyLists.{map-flatMap, keyAt, keysOf, Fit, keys-entries, keys-ascending, keys-before, pair-some, some-pair}
+use Rattle.store.proofs.KeyLists.{keyAt, keysOf, Fit, keys-entries, keys-ascending, keys-before, pair-some, some-pair}
 use Rattle.store.proofs.Offsets.{Rising, offsets-rising, offsets-lists, offsets-length}
 use Rattle.store.proofs.Fits.{goodEntry, Entry, good-entry, fit-entries, good-side, side-list, side-ascends}
 
