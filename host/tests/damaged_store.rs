@@ -2,7 +2,7 @@
 mod judge;
 
 use judge::calls::{self, Input};
-use judge::graph::Graph;
+use judge::graph::{words_of, Graph};
 use judge::matcher::Matcher;
 use judge::plan::{self, Operator};
 use judge::query::Query;
@@ -103,6 +103,44 @@ fn sides_that_do_not_mirror() {
         refused += 1;
     });
     assert!(refused > 5_000, "{refused}");
+}
+
+/// Sides that mirror each other, of a graph that no file can hold: a label 0 or above 255, an edge twice, a vertex label above
+/// 65,535.
+#[test]
+fn mirrored_damage() {
+    let mut seen = [0; 2];
+    each(0..20_000, |r| {
+        let graph = Graph::random(r, 6);
+        let mut labels: Vec<u32> = graph.labels.iter().map(|&l| l.into()).collect();
+        let mut edges: Vec<[u32; 3]> = graph.edges.iter().map(|&(s, l, t)| [s.into(), l.into(), t.into()]).collect();
+        if edges.is_empty() {
+            return;
+        }
+        let at = r.below(edges.len());
+        match r.below(4) {
+            0 => edges[at][1] = [0, 255, 256, 257, 65_535][r.below(5)],
+            1 => edges.push(edges[at]),
+            2 => labels[r.below(graph.vertices())] = [65_535, 65_536, u32::MAX][r.below(3)],
+            _ => (),
+        }
+        seen[usize::from(compare(r, &words_of(&labels, &edges)))] += 1;
+    });
+    assert!(seen.iter().all(|&count| count > 3_000), "{seen:?}");
+}
+
+/// Counts at their limits and one beyond.
+#[test]
+fn counts_at_their_limits() {
+    each(0..1, |r| {
+        for (n, m, accepted) in [(65_535, 2, true), (65_536, 2, false), (3_000, 1_048_575, true), (3_000, 1_048_576, false)] {
+            let edges: Vec<[u32; 3]> = (0..m).map(|i| [i / 1_000, 1 + i % 100, i % 1_000 / 100]).collect();
+            let words = words_of(&vec![0; n], &edges);
+            let (query, plan) = (Query::plain(2, &[(0, 1)]).file(), plan::file(&[Operator::Scan(0)]));
+            let input = Input { store: &words, query: &query, plan: &plan, cache: false };
+            assert_eq!(calls::run(r, &input, 0, 0).refusal, if accepted { 20 } else { 19 }, "{n} vertices, {m} edges");
+        }
+    });
 }
 
 #[test]

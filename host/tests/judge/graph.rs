@@ -11,6 +11,19 @@ pub struct Graph {
     pub edges: Vec<Edge>,
 }
 
+/// The words of a graph whose labels and edges, as [source, label, target], may be beyond their limits.
+pub fn words_of(labels: &[u32], edges: &[[u32; 3]]) -> Vec<u32> {
+    let mut words = vec![labels.len() as u32, edges.len() as u32];
+    words.extend(labels);
+    let backward = edges.iter().map(|&[s, l, t]| [t, l, s]).collect();
+    for mut side in [edges.to_vec(), backward] {
+        side.sort();
+        words.extend((0..=labels.len()).map(|v| side.partition_point(|e| (e[0] as usize) < v) as u32));
+        words.extend(side.iter().map(|[_, label, far]| label * 65_536 + far));
+    }
+    words
+}
+
 impl Graph {
     pub fn vertices(&self) -> usize {
         self.labels.len()
@@ -66,16 +79,9 @@ impl Graph {
 
     /// The words that the graph's file loads to.
     pub fn store(&self) -> Vec<u32> {
-        let mut words = vec![self.labels.len() as u32, self.edges.len() as u32];
-        words.extend(self.labels.iter().map(|&l| u32::from(l)));
-        let forward = self.edges.iter().map(|&(s, l, t)| (s, l, t)).collect();
-        let backward = self.edges.iter().map(|&(s, l, t)| (t, l, s)).collect();
-        for mut side in [forward, backward] as [Vec<Edge>; 2] {
-            side.sort();
-            words.extend((0..=self.labels.len()).map(|v| side.partition_point(|e| usize::from(e.0) < v) as u32));
-            words.extend(side.iter().map(|&(_, l, far)| u32::from(l) * 65536 + u32::from(far)));
-        }
-        words
+        let labels: Vec<u32> = self.labels.iter().map(|&l| l.into()).collect();
+        let edges: Vec<[u32; 3]> = self.edges.iter().map(|&(s, l, t)| [s.into(), l.into(), t.into()]).collect();
+        words_of(&labels, &edges)
     }
 
     /// The graph of a store, if some accepted file loads to it: the forward lists say what the graph is, its file must be
