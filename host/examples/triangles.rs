@@ -49,7 +49,13 @@ fn main() -> Result<(), Box<dyn std::error::Error>> {
 
     let mut buffers = Buffers::new();
     let matches = store.run_growing(&query, &plan, Cache::On, &mut buffers)?;
-    println!("{} vertices, {} edges: {} triangles, cost {}", store.vertices(), store.edges(), matches.len(), matches.cost);
+    println!(
+        "{} vertices, {} edges: {} triangles, cost {}",
+        store.vertices(),
+        store.edges(),
+        matches.len(),
+        matches.cost
+    );
     for row in matches.rows().take(3) {
         println!("{row:?}");
     }

@@ -68,9 +68,8 @@ pub fn load_into(file: &[u8], store: &mut [u32]) -> Result<Loaded, Refusal> {
 pub fn check_plan(query: &[u8], plan: &[u8]) -> Result<usize, Refusal> {
     let mut operators = 0;
     // SAFETY: each pointer and length are those of one slice, and the number is a local.
-    let number = unsafe {
-        sys::trace_check_plan(query.as_ptr(), query.len(), plan.as_ptr(), plan.len(), &mut operators)
-    };
+    let number =
+        unsafe { sys::trace_check_plan(query.as_ptr(), query.len(), plan.as_ptr(), plan.len(), &mut operators) };
     accepted(number)?;
     Ok(size(operators))
 }

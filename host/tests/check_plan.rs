@@ -86,9 +86,11 @@ fn every_bit_and_every_length() {
 #[test]
 fn limits_of_a_query() {
     each(0..1, |r| {
-        let pairs: Vec<(usize, usize)> = (0..8).flat_map(|a| (0..8).filter(move |&b| a != b).map(move |b| (a, b))).collect();
+        let pairs: Vec<(usize, usize)> =
+            (0..8).flat_map(|a| (0..8).filter(move |&b| a != b).map(move |b| (a, b))).collect();
         let plan = plan::file(&[plan::Operator::Scan(0)]);
-        for (n, m, want) in [(8, 7, 18), (8, 24, 18), (8, 25, 8), (8, 0, 8), (9, 8, 8), (2, 1, 0), (1, 1, 8), (0, 1, 8)] {
+        for (n, m, want) in [(8, 7, 18), (8, 24, 18), (8, 25, 8), (8, 0, 8), (9, 8, 8), (2, 1, 0), (1, 1, 8), (0, 1, 8)]
+        {
             let edges = pairs.iter().take(m).map(|&(a, b)| (a, b, 1)).collect();
             let query = Query { labels: vec![0; n], edges };
             assert_eq!(compare(r, &query.file(), &plan), want, "{n} vertices, {m} edges");

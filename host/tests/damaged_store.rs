@@ -39,7 +39,8 @@ fn word_by_word() {
         assert!(compare(r, &store));
         for at in 0..store.len() {
             let word = store[at];
-            let mut values = vec![0, 1, 65_535, 65_536, 16_777_216, u32::MAX, word.wrapping_add(1), word.wrapping_sub(1)];
+            let mut values =
+                vec![0, 1, 65_535, 65_536, 16_777_216, u32::MAX, word.wrapping_add(1), word.wrapping_sub(1)];
             values.extend([word.wrapping_add(65_536), word.wrapping_sub(65_536), r.next() as u32, r.next() as u32 % 8]);
             values.extend((0..32).map(|bit| word ^ 1 << bit));
             for value in values {
@@ -133,7 +134,9 @@ fn mirrored_damage() {
 #[test]
 fn counts_at_their_limits() {
     each(0..1, |r| {
-        for (n, m, accepted) in [(65_535, 2, true), (65_536, 2, false), (3_000, 1_048_575, true), (3_000, 1_048_576, false)] {
+        for (n, m, accepted) in
+            [(65_535, 2, true), (65_536, 2, false), (3_000, 1_048_575, true), (3_000, 1_048_576, false)]
+        {
             let edges: Vec<[u32; 3]> = (0..m).map(|i| [i / 1_000, 1 + i % 100, i % 1_000 / 100]).collect();
             let words = words_of(&vec![0; n], &edges);
             let (query, plan) = (Query::plain(2, &[(0, 1)]).file(), plan::file(&[Operator::Scan(0)]));

@@ -166,7 +166,7 @@ fn refused_files() {
     assert!((6..20).filter(|&k| seen[k] > 0).count() >= 12, "{seen:?}");
 }
 
-/// Scratch and list past 1,073,741,824 words are left alone. Takes 9 GB: run with `--ignored`.
+/// Scratch and list past 1,073,741,824 words are left alone. Takes 5 GB: run with `--ignored`.
 #[test]
 #[ignore]
 fn lengths_past_the_counted_one() {

@@ -41,7 +41,8 @@ fn run(graph: &Graph, query: &Query, operators: &[Operator], cache: Cache) -> An
 #[test]
 fn the_worked_files() {
     let hex = |text: &str| -> Vec<u8> {
-        let digits: Vec<u8> = text.bytes().filter(|b| *b != b' ').map(|b| (b as char).to_digit(16).unwrap() as u8).collect();
+        let digits: Vec<u8> =
+            text.bytes().filter(|b| *b != b' ').map(|b| (b as char).to_digit(16).unwrap() as u8).collect();
         digits.chunks(2).map(|pair| pair[0] * 16 + pair[1]).collect()
     };
     let file = "0004 00005 0000000000000000 0000010001 0000010002 0001010002 0001010003 0002010003 0";

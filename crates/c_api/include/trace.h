@@ -10,7 +10,7 @@
  *  - a bool is true or false.
  *
  * Nothing is kept between calls, and no function allocates, waits or prints: calls on different buffers may run at once, and
- * any number of runs may share one store.
+ * any number of runs may share one store. Of the C library only memcpy, memmove and memset are used.
  *
  * The three files are packed bit by bit, most significant first, and zero bits fill the last byte:
  *

@@ -59,7 +59,6 @@ impl Case {
         file.bytes()
     }
 
-
     /// The number of matches, over the table e(label, source, target): one copy of it for each query edge.
     pub fn sql(&self) -> String {
         let column = |i: usize, end: u8| format!("e{i}.{}", if end == 0 { "source" } else { "target" });

@@ -146,5 +146,9 @@ pub fn rig() -> Graph {
         edges.insert((from as u16, (CABLES.start + r.below(CABLES.len())) as u8, to as u16));
     }
     let m = edges.len();
-    Graph { name: format!("rig, {n} vertices, {m} edges, {} labels", CABLES.end - 1), labels, edges: edges.into_iter().collect() }
+    Graph {
+        name: format!("rig, {n} vertices, {m} edges, {} labels", CABLES.end - 1),
+        labels,
+        edges: edges.into_iter().collect(),
+    }
 }

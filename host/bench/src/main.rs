@@ -44,7 +44,10 @@ fn options() -> Options {
         },
         sqlite: (limit > 0.0 && sqlite::version().is_some()).then_some(limit),
         only: value("--only").unwrap_or_default(),
-        growth: [62_500, 125_000, 250_000, 500_000, 1_000_000].into_iter().filter(|&m| !quick || m <= 125_000).collect(),
+        growth: [62_500, 125_000, 250_000, 500_000, 1_000_000]
+            .into_iter()
+            .filter(|&m| !quick || m <= 125_000)
+            .collect(),
     }
 }
 
@@ -80,11 +83,9 @@ fn check_row(rounds: Rounds, store: &[u32], case: &Case) -> Row {
     let refused = Err(Refusal::ScratchSmall);
     let times = race(
         rounds,
-        [
-            &mut || assert!(merge::check(store)),
-            &mut || assert!(same::check(store)),
-            &mut || assert_eq!(trace::run(store, &query, &plan, Cache::Off, &mut [], &mut []), refused),
-        ],
+        [&mut || assert!(merge::check(store)), &mut || assert!(same::check(store)), &mut || {
+            assert_eq!(trace::run(store, &query, &plan, Cache::Off, &mut [], &mut []), refused)
+        }],
     );
     Row { work: "store check alone".into(), rows: None, times, sqlite: None }
 }

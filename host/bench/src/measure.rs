@@ -42,7 +42,7 @@ pub struct Rounds {
 
 /// The median time of each version. They run once unmeasured, and then in turn, each round beginning with another.
 pub fn race<const N: usize>(rounds: Rounds, mut versions: [&mut dyn FnMut(); N]) -> [f64; N] {
-    let once = versions.iter_mut().map(|version| seconds(version)).fold(0.0, f64::max);
+    let once = versions.iter_mut().map(seconds).fold(0.0, f64::max);
     let count = rounds.least.max(((rounds.seconds / once.max(1e-6)) as usize).min(99));
     let mut times = vec![Vec::new(); N];
     for round in 0..count {

@@ -71,11 +71,18 @@ impl Table {
             let (sqlite, times) = match &row.sqlite {
                 None => (String::new(), String::new()),
                 Some(Counted::In(_, seconds)) => (milliseconds(*seconds), format!("{:.1}", seconds / row.times[2])),
-                Some(Counted::Not(limit)) => (format!("> {}", milliseconds(*limit)), format!("> {:.0}", limit / row.times[2])),
+                Some(Counted::Not(limit)) => {
+                    (format!("> {}", milliseconds(*limit)), format!("> {:.0}", limit / row.times[2]))
+                }
             };
             let (one, two) = (marked(one, miss_one), marked(two, miss_two));
             let count = row.rows.map_or(String::new(), thousands);
-            writeln!(text, "| {} | {count} | {merge} | {same} | {engine} | {one} | {two} | {sqlite} | {times} |", row.work).unwrap();
+            writeln!(
+                text,
+                "| {} | {count} | {merge} | {same} | {engine} | {one} | {two} | {sqlite} | {times} |",
+                row.work
+            )
+            .unwrap();
         }
         text
     }
@@ -142,11 +149,22 @@ pub fn machine(rounds: usize) -> String {
     let gigabytes = value(&memory, "MemTotal").trim_end_matches(" kB").parse::<f64>().unwrap_or(0.0) / 1e6;
     let load = read("/proc/loadavg");
     let mut text = String::new();
-    writeln!(text, "- Processor: {}, {cores} cores, cache {}; {gigabytes:.0} GB of memory", value(&cpu, "model name"), value(&cpu, "cache size")).unwrap();
+    writeln!(
+        text,
+        "- Processor: {}, {cores} cores, cache {}; {gigabytes:.0} GB of memory",
+        value(&cpu, "model name"),
+        value(&cpu, "cache size")
+    )
+    .unwrap();
     writeln!(text, "- System: Linux {}", first_line("uname", &["-r"]).unwrap_or_default()).unwrap();
     writeln!(text, "- Rust: {}", first_line("rustc", &["--version"]).unwrap_or_default()).unwrap();
     writeln!(text, "- SQLite: {}", crate::sqlite::version().unwrap_or("not measured".into())).unwrap();
     writeln!(text, "- Rounds: {rounds} or more a row").unwrap();
-    writeln!(text, "- Load average as the measurement ended: {}", load.split_whitespace().take(3).collect::<Vec<_>>().join(" ")).unwrap();
+    writeln!(
+        text,
+        "- Load average as the measurement ended: {}",
+        load.split_whitespace().take(3).collect::<Vec<_>>().join(" ")
+    )
+    .unwrap();
     text
 }

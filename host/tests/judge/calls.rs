@@ -106,9 +106,7 @@ pub fn check_plan(r: &Random, query: &[u8], plan: &[u8]) -> (u32, u64) {
     let mut numbers = Numbers::<1>::new(r);
     let [operators] = numbers.pointers();
     // SAFETY: as above.
-    let refusal = unsafe {
-        sys::trace_check_plan(query.pointer(), query.len(), plan.pointer(), plan.len(), operators)
-    };
+    let refusal = unsafe { sys::trace_check_plan(query.pointer(), query.len(), plan.pointer(), plan.len(), operators) };
     query.assert_untouched("query");
     plan.assert_untouched("plan");
     (refusal, numbers.after(refusal)[0])

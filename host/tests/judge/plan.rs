@@ -96,9 +96,8 @@ fn joined(query: &Query, build: &[usize], probe: &[usize]) -> Option<Vec<usize>>
     let union: Vec<usize> = (0..query.vertices()).filter(|v| build.contains(v) || probe.contains(v)).collect();
     let shares = union.iter().any(both);
     let own = build.iter().any(|v| !probe.contains(v)) && probe.iter().any(|v| !build.contains(v));
-    let lost = query.edges.iter().any(|(a, b, _)| {
-        lies_in(&union, a, b) && !lies_in(build, a, b) && !lies_in(probe, a, b)
-    });
+    let lost =
+        query.edges.iter().any(|(a, b, _)| lies_in(&union, a, b) && !lies_in(build, a, b) && !lies_in(probe, a, b));
     (shares && own && !lost).then_some(union)
 }
 
