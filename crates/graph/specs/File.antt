@@ -1,7 +1,7 @@
 -- The graph file: 'N vertices (16 bits), M edges (20 bits), N vertex labels (16 bits each), then M edges of source (16),
 -- label (8), target (16)', and the faults for which Load refuses one. Assumes nothing.
-use mathlib.Core.Bool.{Bool, true, false, not, _&&_, _||_}
-use mathlib.Core.List.{List, [], _∷_, _++_, map}
+use mathlib.Core.Bool.{Bool, true, not, _&&_, _||_}
+use mathlib.Core.List.{List, [], _∷_, map}
 use Prim.Native.Nat.{ℕ, zero, suc, _+_, _-_, _*_}
 use lib.Dec.{eqb, ltb}
 use lib.ListN.{length}

@@ -1,8 +1,8 @@
 -- The plan file: 'operator count (5 bits, 1 to 31), then operators: kind (2 bits); 0 scan with a query edge's index (5), 1
 -- extend with a query vertex (3), 2 join with nothing more', and what Check plan answers. Assumes nothing.
-use mathlib.Core.Bool.{Bool, cond, not, _&&_, _||_}
+use mathlib.Core.Bool.{cond, not, _&&_}
 use mathlib.Core.List.{List, [], _∷_, _++_, map}
-use Prim.Native.Nat.{ℕ, zero, suc, _+_, _*_}
+use Prim.Native.Nat.{ℕ, zero, suc, _+_}
 use lib.Dec.{eqb, ltb}
 use lib.ListN.{length}
 use Rattle.lists.specs.Lists.{range}

@@ -7,8 +7,7 @@ use native.Mathlib.Numerals.{add-one}
 use lib.ListN.{length, getD, take, set, replicate, length-append, length-replicate, List·getD-append}
 use lib.Seq.{set-at, append-snoc, take-append-seam}
 use Rattle.lists.specs.Lists.{range}
-use Rattle.lists.proofs.Maps.{image-suc}
-pub use Rattle.lists.proofs.Maps.{length-image}
+use Rattle.lists.proofs.Maps.{image-suc, length-image}
 use Rattle.query.specs.Answer.{padded}
 
 -- One number more in an array of k.

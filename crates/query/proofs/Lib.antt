@@ -4,6 +4,5 @@ pub mod Structs
 pub mod Masks
 pub mod Touch
 pub mod Steps
-pub mod Refusals
 pub mod FileLaws
 pub mod Limits

@@ -10,12 +10,11 @@ use lib.Seq.{take-at, drop-at}
 use borrow.Author.Tests.{eqb-true, lt-ltb, le-ltb, ltb-true, ltb-false}
 use Rattle.lists.specs.Refusal.{first, answered}
 use Rattle.lists.proofs.Tests.{clash, fails}
-use Rattle.lists.proofs.Faults.{first-cons}
+use Rattle.lists.proofs.Faults.{first-cons, first-some}
 use Rattle.graph.specs.Graph.{Graph}
 use Rattle.graph.specs.Store.{graphIn, storeFault}
 use Rattle.query.specs.Query.{Query}
 use Rattle.query.specs.File.{queryOf}
-use Rattle.query.proofs.Refusals.{first-some}
 use Rattle.plan.specs.Plan.{Operator}
 use Rattle.plan.specs.File.{operatorsOf, checkFault}
 use Rattle.run.specs.Run.{RunAnswer, counted, planRows, planNeed, runFault, runAnswer, runList, runScratch}

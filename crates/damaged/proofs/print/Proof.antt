@@ -1,8 +1,6 @@
 -- `damaged::print` is safe and ends. Assumes nothing.
 use borrow.Author.Needs.{needs}
 use Prim.Native.Nat.{_-_, _≤_}
-use mathlib.Core.Path.{_≡_}
-use lib.ListN.{length}
 use Rattle.damaged.proofs.print.Statement.{statement}
 use Rattle.damaged.proofs.print.Tie as tie
 

@@ -1,7 +1,6 @@
 -- `damaged::touched` is safe and ends. Assumes nothing.
 use borrow.Author.Needs.{needs}
 use Prim.Native.Nat.{_-_, _≤_}
-use mathlib.Core.Path.{_≡_}
 use lib.ListN.{length}
 use Rattle.damaged.proofs.touched.Statement.{statement}
 use Rattle.damaged.proofs.touched.Tie as tie

@@ -1,7 +1,7 @@
 -- `packed::fill_set` meets its contract: up to the end of their last byte, 8 - bits % 8 bits follow `bits` bits, or none. Assumes
 -- nothing.
 use mathlib.Core.Path.{_≡_}
-use Prim.Native.Nat.{ℕ, _-_, _*_, _%_}
+use Prim.Native.Nat.{_-_, _*_, _%_}
 use native.Mathlib.Omega.{arith}
 use borrow.Author.Needs.{needs}
 use Rattle.packed.specs.Field.{bytesFor, fillSet}

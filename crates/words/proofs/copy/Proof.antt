@@ -1,8 +1,7 @@
 -- `words::copy` meets its contract: the first i words are the other slice's. Assumes nothing.
-use mathlib.Core.Path.{_≡_, refl}
-use Prim.Native.Nat.{ℕ, _-_, _≤_, _<_}
+use mathlib.Core.Path.{refl}
+use Prim.Native.Nat.{_-_, _≤_}
 use native.Mathlib.Omega.{arith}
-use lib.ListN.{length}
 use borrow.Author.Needs.{needs}
 use Rattle.words.proofs.Copying.{Copied, start, next, done}
 use Rattle.words.proofs.copy.Statement.{statement}
