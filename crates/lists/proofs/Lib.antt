@@ -8,6 +8,7 @@ pub mod Parts
 pub mod Sort
 pub mod Maps
 pub mod Any
+pub mod Pigeonhole
 pub mod Ascending
 pub mod Cut
 pub mod Faults
