@@ -11,7 +11,7 @@ use Rattle.lists.proofs.Tests.{and-l}
 use Rattle.graph.specs.Graph.{Direction, forward, backward}
 use Rattle.graph.specs.Store.{graphIn, storeOf, storeSize, wellFormed, storeFault}
 use Rattle.store.specs.Side.{verticesIn, edgesIn, sideIn}
-use Rattle.store.specs.Check.{unless, countsFit, labelsFit, offsetsFit, offsetsOn, sideFits, sideGood, GoodSide, sideMirrored, turned, Counted}
+use Rattle.store.specs.Check.{unless, countsFit, labelsFit, offsetsFit, offsetsOn, sideFits, sideGood, GoodSide, sideMirrored, Counted}
 use Rattle.store.proofs.Counting.{counted-as, forward-room, backward-room}
 use Rattle.store.proofs.Loops.{answer-hands, answer-passes}
 use Rattle.store.proofs.Fits.{good-side}
@@ -53,8 +53,7 @@ record PassedAt (store : List ℕ) (n m one two : ℕ) : Type 0 where
   labels : labelsBefore store one ≡ true
   there : sideGood store n m one ≡ true
   back : sideGood store n m two ≡ true
-  mirrored-there : sideMirrored store n one two ≡ true
-  mirrored-back : sideMirrored store n two one ≡ true
+  mirrored : sideMirrored store n one two ≡ true
 
 -- The tests of both directions.
 module _ {store : List ℕ} (k : countsFit store ≡ true) (p : PassedAt store (verticesIn store) (edgesIn store) (sideIn forward store) (sideIn backward store)) where
@@ -62,17 +61,13 @@ module _ {store : List ℕ} (k : countsFit store ≡ true) (p : PassedAt store (
   sides forward = p .there
   sides backward = p .back
 
-  mirrored : (d : Direction) → sideMirrored store (verticesIn store) (sideIn d store) (sideIn (turned d) store) ≡ true
-  mirrored forward = p .mirrored-there
-  mirrored backward = p .mirrored-back
-
   all-passed : Passed store
   all-passed =
       record {
         counts = k;
         labels = labels-part store ∙ p .labels;
         sides = sides;
-        mirrors = mirrored;
+        mirrors = p .mirrored;
       }
 
 module _ {store : List ℕ} {n m one two : ℕ} (k : Counted store n m one two) where
@@ -83,8 +78,7 @@ module _ {store : List ℕ} {n m one two : ℕ} (k : Counted store n m one two) 
         labels = sym (labels-part store) ∙ p .labels;
         there = p .sides forward;
         back = p .sides backward;
-        mirrored-there = p .mirrors forward;
-        mirrored-back = p .mirrors backward;
+        mirrored = p .mirrors;
       })
 
   at-passed : PassedAt store n m one two → Passed store
@@ -116,9 +110,6 @@ module _ {store : List ℕ} {n m one two : ℕ} (k : Counted store n m one two) 
   pub back-refuses : r ≡ unless (sideGood store n m two) → (r ≡ 0 → ⊥) → r ≡ storeFault store
   back-refuses e h = refuses store (sideGood store n m two) e h (λ p. passed-at k p .back)
 
-  pub mirrors-refuse : r ≡ unless (sideMirrored store n one two) → (r ≡ 0 → ⊥) → r ≡ storeFault store
-  mirrors-refuse e h = refuses store (sideMirrored store n one two) e h (λ p. passed-at k p .mirrored-there)
-
   pub labels-pass : r ≡ unless (labelsBefore store one) → r ≡ 0 → labelsBefore store one ≡ true
   labels-pass e z = answer-passes (labelsBefore store one) e z
 
@@ -128,15 +119,12 @@ module _ {store : List ℕ} {n m one two : ℕ} (k : Counted store n m one two) 
   pub back-passes : r ≡ unless (sideGood store n m two) → r ≡ 0 → sideGood store n m two ≡ true
   back-passes e z = answer-passes (sideGood store n m two) e z
 
-  pub mirrors-pass : r ≡ unless (sideMirrored store n one two) → r ≡ 0 → sideMirrored store n one two ≡ true
-  mirrors-pass e z = answer-passes (sideMirrored store n one two) e z
-
   -- The last one decides.
-  pub last-decides : r ≡ unless (sideMirrored store n two one) → labelsBefore store one ≡ true → sideGood store n m one ≡ true → sideGood store n m two ≡ true
-      → sideMirrored store n one two ≡ true → r ≡ storeFault store
-  last-decides e labels there back mirrored =
-      decides store (sideMirrored store n two one) e (λ p. passed-at k p .mirrored-back)
-      (λ t. at-passed k (record { labels = labels; there = there; back = back; mirrored-there = mirrored; mirrored-back = t }))
+  pub mirrors-decide : r ≡ unless (sideMirrored store n one two) → labelsBefore store one ≡ true → sideGood store n m one ≡ true → sideGood store n m two ≡ true
+      → r ≡ storeFault store
+  mirrors-decide e labels there back =
+      decides store (sideMirrored store n one two) e (λ p. passed-at k p .mirrored)
+      (λ t. at-passed k (record { labels = labels; there = there; back = back; mirrored = t }))
 
   -- What the mirrors need of the sides.
   pub there-good : r ≡ unless (sideGood store n m one) → r ≡ 0 → GoodSide store n one

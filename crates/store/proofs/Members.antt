@@ -5,10 +5,13 @@ use mathlib.Core.List.{List}
 use Prim.Native.Nat.{ℕ, _≤_, _<_}
 use native.Mathlib.Omega.{arith}
 use lib.Dec.{eqb, ltb}
+use lib.ListN.{length}
 use borrow.Author.Tests.{ltb-true, ltb-false}
 use Rattle.lists.specs.Lists.{bit, range, keep, count, ascending, sort}
+use Rattle.lists.proofs.Tests.{iff}
 use Rattle.lists.proofs.Count.{count-keep, count-range-one}
 use Rattle.lists.proofs.Any.{any-count}
+use Rattle.lists.proofs.Pigeonhole.{pigeonhole}
 use Rattle.lists.proofs.Sort.{count-sort, ascending-once, ascending-same}
 use Rattle.store.specs.Check.{member}
 
@@ -43,3 +46,9 @@ ascending-members xs ys p q h =
 
     occurs : (zs : List ℕ) → ascending zs ≡ true → (k : ℕ) → count (λ (z : ℕ). eqb z k) zs ≡ bit (member k zs)
     occurs zs e k = once (count (λ (z : ℕ). eqb z k) zs) (member k zs) (ascending-once zs e k) (sym (any-count (λ (z : ℕ). eqb z k) zs))
+
+-- An ascending list whose members are all in another one of the same length is that one.
+pub ascending-covers : (xs ys : List ℕ) → ascending xs ≡ true → ascending ys ≡ true
+    → ((k : ℕ) → member k xs ≡ true → member k ys ≡ true) → length xs ≡ length ys → xs ≡ ys
+ascending-covers xs ys p q h e =
+    ascending-members xs ys p q (λ k. iff (member k xs) (member k ys) (h k) (pigeonhole xs ys (ascending-once xs p) h (omega arith) k))

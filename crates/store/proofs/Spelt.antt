@@ -3,17 +3,17 @@
 use mathlib.Core.Path.{_≡_, sym, _∙_, ap, ap₂, fun-ext, subst}
 use mathlib.Core.Bool.{Bool, true, _&&_}
 use mathlib.Core.List.{List, _∷_, _++_, map, map-map, flatMap}
-use Prim.Native.Nat.{ℕ, suc, _+_, _-_, _*_, _/_, _%_, _≤_, _<_}
+use Prim.Native.Nat.{ℕ, suc, _+_, _-_, _*_, _%_, _≤_, _<_}
 use native.Mathlib.Omega.{arith}
 use lib.Dec.{ltb}
 use lib.ListN.{length, getD, take, drop, length-map, length-drop, take-append-drop}
 use lib.Seq.{length-take-le, getD-drop, drop-cons, drop-drop}
 use borrow.Author.Tests.{ltb-true, lt-ltb}
 use Rattle.lists.specs.Lists.{range, all, count, ascending, sort}
-use Rattle.lists.proofs.Tests.{iff, and-l, and-r, and-both}
+use Rattle.lists.proofs.Tests.{and-l, and-r, and-both}
 use Rattle.lists.proofs.All.{all-at, all-range, all-follows, all-and, map-getD}
 use Rattle.lists.proofs.Count.{all-map, all-flatMap}
-use Rattle.lists.proofs.Sort.{sort-ascending}
+use Rattle.lists.proofs.Sort.{length-sort, sort-ascending}
 use Rattle.lists.proofs.Maps.{map-under, map-flatMap}
 use Rattle.graph.specs.Graph.{Edge, Graph, Direction, forward, backward, key}
 use Rattle.graph.specs.Store.{usedWords, listIn, edgeOf, graphIn, offsets, entries, storeOf, storeFault}
@@ -22,9 +22,9 @@ use Rattle.graph.proofs.Keys.{keys-ascend, keys-below}
 use Rattle.graph.proofs.Parts.{offset, side, store-shape}
 use Rattle.graph.proofs.StoreGraph.{store-accepted}
 use Rattle.store.specs.Side.{listOn, verticesIn, edgesIn, sideIn}
-use Rattle.store.specs.Check.{countsFit, labelsFit, offsetsFit, offsetsOn, sideFits, sideGood, GoodSide, member, mirror, listMirrored, sideMirrored, turned}
+use Rattle.store.specs.Check.{countsFit, labelsFit, offsetsFit, offsetsOn, sideFits, sideGood, GoodSide, member, mirror, listMirrored, sideMirrored}
 use Rattle.store.proofs.Counting.{Counts, counts-fit}
-use Rattle.store.proofs.Members.{member-sort, ascending-members}
+use Rattle.store.proofs.Members.{member-sort, ascending-covers}
 use Rattle.store.proofs.Accepted.{side-ends}
 use Rattle.store.proofs.KeyLists.{keyAt, keysOf, Fit, keys-entries, keys-ascending, keys-before, pair-some, some-pair}
 use Rattle.store.proofs.Offsets.{Rising, offsets-rising, offsets-lists, offsets-length}
@@ -35,7 +35,7 @@ pub record Passed (store : List ℕ) : Type 0 where
   pub counts : countsFit store ≡ true
   pub labels : labelsFit store ≡ true
   pub sides : (d : Direction) → sideGood store (verticesIn store) (edgesIn store) (sideIn d store) ≡ true
-  pub mirrors : (d : Direction) → sideMirrored store (verticesIn store) (sideIn d store) (sideIn (turned d) store) ≡ true
+  pub mirrors : sideMirrored store (verticesIn store) (sideIn forward store) (sideIn backward store) ≡ true
 
 -- The list of v on the side of a direction.
 abbrev pub listTo : List ℕ → Direction → ℕ → List ℕ
@@ -100,12 +100,15 @@ module _ (store : List ℕ) (passed : Passed store) where
       all-follows (goodEntry n) (λ (k : ℕ). ltb k 16777216) (listTo store d v) (list-good d v h)
       (λ k t. lt-ltb k 16777216 (good-entry n k t .fits))
 
+  -- A side has M entries.
+  keys-count : (d : Direction) → length (keysOf (listTo store d) n) ≡ m
+  keys-count d =
+      sym (length-map (keysOf (listTo store d) n) (λ (k : ℕ). k % 16777216)) ∙ ap length (keys-entries (listTo store d) n (list-fit d))
+      ∙ offsets-length store n m (sideIn d store) (side-room d) (rising d) n (omega arith) ∙ rising d .ends
+
   -- M edges, in their ranges, ascending.
   edge-count : length (g .edges) ≡ m
-  edge-count =
-      sym (length-map (g .edges) (key forward)) ∙ ap length (forward-keys store)
-      ∙ sym (length-map (keysOf (listTo store forward) n) (λ (k : ℕ). k % 16777216)) ∙ ap length (keys-entries (listTo store forward) n (list-fit forward))
-      ∙ offsets-length store n m (sideIn forward store) (side-room forward) (rising forward) n (omega arith) ∙ rising forward .ends
+  edge-count = sym (length-map (g .edges) (key forward)) ∙ ap length (forward-keys store) ∙ keys-count forward
 
   edges-fit : all (fitting n) (g .edges) ≡ true
   edges-fit =
@@ -131,54 +134,40 @@ module _ (store : List ℕ) (passed : Passed store) where
         edges-ascend = ap ascending (forward-keys store) ∙ keys-ascending (listTo store forward) n (list-fit forward) (side-ascends (good forward));
       }
 
-  -- Each entry has its mirror on the other side.
-  mirrored : (d : Direction) (v : ℕ) → v < n
-      → all (λ (k : ℕ). goodEntry n k && member (mirror v k) (listTo store (turned d) (k % 65536))) (listTo store d v) ≡ true
+  -- Each forward entry has its mirror on the backward side.
+  mirrored : (v : ℕ) → v < n
+      → all (λ (k : ℕ). goodEntry n k && member (mirror v k) (listTo store backward (k % 65536))) (listTo store forward v) ≡ true
   unfolding sideMirrored listMirrored
-  mirrored d v h =
-      all-and (goodEntry n) (λ (k : ℕ). member (mirror v k) (listTo store (turned d) (k % 65536))) (listTo store d v)
-      ∙ and-both (all (goodEntry n) (listTo store d v)) (all (λ (k : ℕ). member (mirror v k) (listTo store (turned d) (k % 65536))) (listTo store d v))
-      (list-good d v h)
-      (all-at (λ (u : ℕ). listMirrored store n (sideIn (turned d) store) u (listTo store d u)) n (passed .mirrors d) v h)
+  mirrored v h =
+      all-and (goodEntry n) (λ (k : ℕ). member (mirror v k) (listTo store backward (k % 65536))) (listTo store forward v)
+      ∙ and-both (all (goodEntry n) (listTo store forward v))
+      (all (λ (k : ℕ). member (mirror v k) (listTo store backward (k % 65536))) (listTo store forward v))
+      (list-good forward v h)
+      (all-at (λ (u : ℕ). listMirrored store n (sideIn backward store) u (listTo store forward u)) n (passed .mirrors) v h)
 
-  -- So the backward lists have the backward keys of the edges, and no others.
-  backward-keys : (k : ℕ) → member k (map (key backward) (g .edges)) ≡ member k (keysOf (listTo store backward) n)
+  -- So the backward lists have the backward keys of the edges.
+  backward-keys : (k : ℕ) → member k (map (key backward) (g .edges)) ≡ true → member k (keysOf (listTo store backward) n) ≡ true
   unfolding keysOf
-  backward-keys k =
-      ap (member k) (edge-keys backward store)
-      ∙ iff (member k edges) (member k (keysOf (listTo store backward) n))
-      (λ t.
-      pair-some (has backward) (λ (v j : ℕ). key backward (edgeOf v j)) (listTo store forward) n k (mirrored forward) t
+  backward-keys k t =
+      pair-some has (λ (v j : ℕ). key backward (edgeOf v j)) (listTo store forward) n k mirrored (sym (ap (member k) (edge-keys backward store)) ∙ t)
       (λ v j h s e.
       let f : Entry n j = good-entry n j (and-l (goodEntry n j) (member (mirror v j) (listTo store backward (j % 65536))) s) in
       subst (λ (i : ℕ). member i (keysOf (listTo store backward) n) ≡ true)
       (let i : keyAt (j % 65536) (mirror v j) ≡ k = omega arith in i)
       (some-pair keyAt (listTo store backward) n (j % 65536) (mirror v j) (f .inside)
-      (and-r (goodEntry n j) (member (mirror v j) (listTo store backward (j % 65536))) s))))
-      (λ t.
-      pair-some (has forward) keyAt (listTo store backward) n k (mirrored backward) t
-      (λ v j h s e.
-      let f : Entry n j = good-entry n j (and-l (goodEntry n j) (member (mirror v j) (listTo store forward (j % 65536))) s) in
-      subst (λ (i : ℕ). member i edges ≡ true)
-      (let a : v < 65536 = omega (arith, counted .few-vertices) in
-      let b : mirror v j % 65536 ≡ v = omega arith in
-      let c : mirror v j / 65536 ≡ j / 65536 = omega arith in
-      let i : key backward (edgeOf (j % 65536) (mirror v j)) ≡ k = omega arith in i)
-      (some-pair (λ (v j : ℕ). key backward (edgeOf v j)) (listTo store forward) n (j % 65536) (mirror v j) (f .inside)
-      (and-r (goodEntry n j) (member (mirror v j) (listTo store forward (j % 65536))) s))))
+      (and-r (goodEntry n j) (member (mirror v j) (listTo store backward (j % 65536))) s)))
     where
-      has : Direction → ℕ → ℕ → Bool
-      has d v j = goodEntry n j && member (mirror v j) (listTo store d (j % 65536))
+      has : ℕ → ℕ → Bool
+      has v j = goodEntry n j && member (mirror v j) (listTo store backward (j % 65536))
 
-      edges : List ℕ
-      edges = flatMap (λ (v : ℕ). map (λ (j : ℕ). key backward (edgeOf v j)) (listTo store forward v)) (range n)
-
-  -- The keys in order are those of the lists, one after the other.
+  -- The keys in order are those of the lists, one after the other. The backward lists have no others: there are M of both.
   sorted : (d : Direction) → sort (map (key d) (g .edges)) ≡ keysOf (listTo store d) n
   sorted forward = sort-ascending (map (key forward) (g .edges)) (well .edges-ascend) ∙ forward-keys store
   sorted backward =
-      ascending-members _ _ (keys-ascend g well backward) (keys-ascending (listTo store backward) n (list-fit backward) (side-ascends (good backward)))
-      (λ k. member-sort k (map (key backward) (g .edges)) ∙ backward-keys k)
+      ascending-covers (sort (map (key backward) (g .edges))) (keysOf (listTo store backward) n)
+      (keys-ascend g well backward) (keys-ascending (listTo store backward) n (list-fit backward) (side-ascends (good backward)))
+      (λ k t. backward-keys k (sym (member-sort k (map (key backward) (g .edges))) ∙ t))
+      (length-sort (map (key backward) (g .edges)) ∙ length-map (g .edges) (key backward) ∙ edge-count ∙ sym (keys-count backward))
 
   -- Its offsets and entries are those of the graph.
   offset-spelt : (d : Direction) (v : ℕ) → v ≤ n → offset d g v ≡ getD (drop (sideIn d store) store) v 0

@@ -1,38 +1,29 @@
 -- A store that is not refused passes every test of the check. Assumes nothing.
-use mathlib.Core.Path.{_≡_, refl, sym, _∙_, ap, ap₂, subst}
+use mathlib.Core.Path.{_≡_, sym, _∙_, ap, ap₂, subst}
 use mathlib.Core.Bool.{true, _&&_}
 use mathlib.Core.List.{List}
 use Prim.Native.Nat.{ℕ, suc, _+_, _%_, _≤_, _<_}
 use native.Mathlib.Omega.{arith}
 use lib.Dec.{eqb, ltb}
 use lib.ListN.{length, getD}
-use borrow.Author.Tests.{eqb-true, eq-eqb, ltb-true, lt-ltb, le-ltb}
+use borrow.Author.Tests.{eqb-true, ltb-true, lt-ltb, le-ltb}
 use Rattle.lists.specs.Lists.{_⇒_, all, ascendsFrom}
 use Rattle.lists.proofs.Tests.{and-both, imp-intro, eqb-refl}
 use Rattle.lists.proofs.All.{all-mem, mem-all, mem-any, all-range, all-follows, all-under, all-and}
 use Rattle.lists.proofs.Count.{count-none, count-all}
 use Rattle.lists.proofs.Sort.{ascends-from}
-use Rattle.graph.specs.Graph.{Edge, Graph, Direction, forward, backward, near, far, entry}
+use Rattle.graph.specs.Graph.{Edge, Graph, Direction, forward, backward, near, entry}
 use Rattle.graph.specs.Store.{usedWords, graphIn, storeFault}
 use Rattle.graph.proofs.WellFormed.{WellFormed, fitting}
 use Rattle.graph.proofs.Keys.{near-in, far-in}
 use Rattle.store.specs.Side.{verticesIn, edgesIn, sideIn}
-use Rattle.store.specs.Check.{countsFit, labelsFit, offsetsFit, offsetsOn, listFits, sideFits, member, mirror, listMirrored, sideMirrored, turned}
+use Rattle.store.specs.Check.{countsFit, labelsFit, offsetsFit, offsetsOn, listFits, sideFits, member, mirror, listMirrored, sideMirrored}
 use Rattle.store.specs.Portion.{listOf}
 use Rattle.store.proofs.Counting.{fit-counts}
 use Rattle.store.proofs.Listed.{list-all, list-any, list-ascends, entries-given, entries-fit, entries-in}
 use Rattle.store.proofs.Accepted.{side-ends, graph-formed, store-length, store-edges, offset-in, list-within, list-on}
 use Rattle.store.proofs.Offsets.{Rising, rising-offsets}
 use Rattle.store.proofs.Spelt.{Passed, listTo}
-
--- The mirror of an edge's entry is its entry in the other direction.
-far-turned : (d : Direction) (e : Edge) → far (turned d) e ≡ near d e
-far-turned forward e = refl
-far-turned backward e = refl
-
-near-turned : (d : Direction) (e : Edge) → near (turned d) e ≡ far d e
-near-turned forward e = refl
-near-turned backward e = refl
 
 module _ (g : Graph) (w : WellFormed g) (d : Direction) (v : ℕ) where
   -- A vertex's list fits.
@@ -45,21 +36,21 @@ module _ (g : Graph) (w : WellFormed g) (d : Direction) (v : ℕ) where
       ∙ and-both (all (λ (k : ℕ). ltb k 16777216) (listOf d g v)) (all (λ (k : ℕ). ltb (k % 65536) (g .vertices)) (listOf d g v))
       (entries-fit g w d v) (entries-in g w d v))
 
-  -- And each of its entries is mirrored.
-  list-mirrored : all (λ (k : ℕ). member (mirror v k) (listOf (turned d) g (k % 65536))) (listOf d g v) ≡ true
-  list-mirrored =
-      list-all (λ (k : ℕ). member (mirror v k) (listOf (turned d) g (k % 65536))) d g v
-      ∙ all-mem (λ (e : Edge). eqb (near d e) v ⇒ member (mirror v (entry d e)) (listOf (turned d) g (entry d e % 65536))) (g .edges)
-      (λ e i. imp-intro (eqb (near d e) v) (member (mirror v (entry d e)) (listOf (turned d) g (entry d e % 65536)))
-      (λ t.
-      let l : far d e < 65536 = omega (arith, far-in g w d e (mem-all (fitting (g .vertices)) i (w .edges-fit)), w .few-vertices) in
-      let a : entry d e % 65536 ≡ far d e = omega arith in
-      let b : mirror v (entry d e) ≡ entry (turned d) e = omega (arith, far-turned d e, eqb-true (near d e) v t) in
-      ap₂ (λ (j x : ℕ). member j (listOf (turned d) g x)) b a
-      ∙ list-any (λ (j : ℕ). eqb j (entry (turned d) e)) (turned d) g (far d e)
-      ∙ mem-any (λ (o : Edge). eqb (near (turned d) o) (far d e) && eqb (entry (turned d) o) (entry (turned d) e)) i
-      (and-both (eqb (near (turned d) e) (far d e)) (eqb (entry (turned d) e) (entry (turned d) e))
-      (eq-eqb (near (turned d) e) (far d e) (near-turned d e)) (eqb-refl (entry (turned d) e)))))
+-- And each forward entry is mirrored: the mirror of an edge's forward entry is its backward one.
+list-mirrored : (g : Graph) → WellFormed g → (v : ℕ)
+    → all (λ (k : ℕ). member (mirror v k) (listOf backward g (k % 65536))) (listOf forward g v) ≡ true
+list-mirrored g w v =
+    list-all (λ (k : ℕ). member (mirror v k) (listOf backward g (k % 65536))) forward g v
+    ∙ all-mem (λ (e : Edge). eqb (e .source) v ⇒ member (mirror v (entry forward e)) (listOf backward g (entry forward e % 65536))) (g .edges)
+    (λ e i. imp-intro (eqb (e .source) v) (member (mirror v (entry forward e)) (listOf backward g (entry forward e % 65536)))
+    (λ t.
+    let l : e .target < 65536 = omega (arith, far-in g w forward e (mem-all (fitting (g .vertices)) i (w .edges-fit)), w .few-vertices) in
+    let a : entry forward e % 65536 ≡ e .target = omega arith in
+    let b : mirror v (entry forward e) ≡ entry backward e = omega (arith, eqb-true (e .source) v t) in
+    ap₂ (λ (j x : ℕ). member j (listOf backward g x)) b a
+    ∙ list-any (λ (j : ℕ). eqb j (entry backward e)) backward g (e .target)
+    ∙ mem-any (λ (o : Edge). eqb (o .target) (e .target) && eqb (entry backward o) (entry backward e)) i
+    (and-both (eqb (e .target) (e .target)) (eqb (entry backward e) (entry backward e)) (eqb-refl (e .target)) (eqb-refl (entry backward e)))))
 
 module _ (store : List ℕ) (accepted : storeFault store ≡ 0) where
   abbrev g : Graph
@@ -112,12 +103,11 @@ module _ (store : List ℕ) (accepted : storeFault store ≡ 0) where
             (all-range (λ (v : ℕ). listFits (verticesIn store) (listTo store d v)) (verticesIn store)
             (λ v h. ap (listFits (verticesIn store)) (list-on store accepted d v h) ∙ list-fits g formed d v));
         mirrors =
-            λ d.
-            all-range (λ (v : ℕ). listMirrored store (verticesIn store) (sideIn (turned d) store) v (listTo store d v)) (verticesIn store)
+            all-range (λ (v : ℕ). listMirrored store (verticesIn store) (sideIn backward store) v (listTo store forward v)) (verticesIn store)
             (λ v h.
-            ap (all (λ (k : ℕ). member (mirror v k) (listTo store (turned d) (k % 65536)))) (list-on store accepted d v h)
-            ∙ all-under (λ (k : ℕ). ltb (k % 65536) (verticesIn store)) (λ (k : ℕ). member (mirror v k) (listTo store (turned d) (k % 65536)))
-            (λ (k : ℕ). member (mirror v k) (listOf (turned d) g (k % 65536))) (listOf d g v) (entries-in g formed d v)
-            (λ k t. ap (member (mirror v k)) (list-on store accepted (turned d) (k % 65536) (ltb-true (k % 65536) (verticesIn store) t)))
-            ∙ list-mirrored g formed d v);
+            ap (all (λ (k : ℕ). member (mirror v k) (listTo store backward (k % 65536)))) (list-on store accepted forward v h)
+            ∙ all-under (λ (k : ℕ). ltb (k % 65536) (verticesIn store)) (λ (k : ℕ). member (mirror v k) (listTo store backward (k % 65536)))
+            (λ (k : ℕ). member (mirror v k) (listOf backward g (k % 65536))) (listOf forward g v) (entries-in g formed forward v)
+            (λ k t. ap (member (mirror v k)) (list-on store accepted backward (k % 65536) (ltb-true (k % 65536) (verticesIn store) t)))
+            ∙ list-mirrored g formed v);
       }

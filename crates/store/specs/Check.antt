@@ -1,5 +1,5 @@
 -- The parts of refusal 19, as the store check tests them: counts and labels in their ranges, offsets that rise from 0 to M,
--- lists that ascend, and each entry mirrored on the other side. Assumes nothing.
+-- lists that ascend, and each forward entry mirrored on the backward side. Assumes nothing.
 use mathlib.Core.Path.{_≡_}
 use mathlib.Core.Bool.{Bool, true, false, not, _&&_}
 use mathlib.Core.List.{List, [], _∷_}
@@ -8,7 +8,7 @@ use lib.Dec.{eqb, leb, ltb}
 use lib.ListN.{length, take, drop}
 use Rattle.lists.specs.Lists.{range, all, any, ascendsFrom}
 use Rattle.lists.specs.Refusal.{refuse}
-use Rattle.graph.specs.Graph.{Direction, forward, backward}
+use Rattle.graph.specs.Graph.{forward, backward}
 use Rattle.graph.specs.Store.{usedWords}
 use Rattle.store.specs.Side.{listOn, Within, verticesIn, edgesIn, sideIn}
 
@@ -68,11 +68,6 @@ listMirrored store n other v s = all (λ (k : ℕ). member (mirror v k) (listOn 
 
 unfoldable pub sideMirrored : List ℕ → ℕ → ℕ → ℕ → Bool
 sideMirrored store n side other = all (λ (v : ℕ). listMirrored store n other v (listOn store n side v)) (range n)
-
--- The other direction.
-abbrev pub turned : Direction → Direction
-turned forward = backward
-turned backward = forward
 
 -- The counts of a store whose counts fit, and where its sides begin.
 pub record Counted (store : List ℕ) (n m one two : ℕ) : Type 0 where

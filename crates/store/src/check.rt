@@ -189,11 +189,8 @@ fn sides_fault(store: &[u32], n: usize, m: u32, forward: usize, backward: usize)
     if two != 0 {
         return two;
     }
-    let mirrors = mirrors_fault(store, n, forward, backward);
-    if mirrors != 0 {
-        return mirrors;
-    }
-    mirrors_fault(store, n, backward, forward)
+    // Both sides have m entries, told apart: where each forward one has its mirror, no backward one is left over.
+    mirrors_fault(store, n, forward, backward)
 }
 
 // 19 where no accepted graph file loads to this store, words past the used ones ignored; else 0.

@@ -4,7 +4,7 @@ use native.Mathlib.Omega.{arith}
 use borrow.Author.Needs.{needs}
 use Rattle.store.specs.Check.{GoodSide}
 use Rattle.store.proofs.Counting.{counted-few, forward-room, backward-room}
-use Rattle.store.proofs.Decided.{labels-refuse, there-refuses, back-refuses, mirrors-refuse, labels-pass, there-passes, back-passes, mirrors-pass, there-good, back-good, last-decides}
+use Rattle.store.proofs.Decided.{labels-refuse, there-refuses, back-refuses, labels-pass, there-passes, back-passes, there-good, back-good, mirrors-decide}
 use Rattle.store.proofs.check.sides_fault.Statement.{statement}
 use Rattle.store.proofs.check.sides_fault.Tie as tie
 
@@ -44,24 +44,12 @@ mirrors-fault-requires c κs =
     search
 
 returns-4 : tie.Need-returns-4
-returns-4 c = mirrors-refuse (c .before .before .before .before .before .before .before .before .before .before .pre) (c .before .mirrors-fault .ensures) (c .if4 .taken)
-
-mirrors-fault-requires-2 : tie.Need-mirrors-fault-requires-2
-mirrors-fault-requires-2 c κs =
-    let k = c .before .before .before .before .before .before .before .before .before .before .pre in
-    let there : GoodSide _ _ _ = there-good k (c .before .before .before .before .before .side-fault .ensures) (c .before .before .before .before .if2 .left) in
-    let back : GoodSide _ _ _ = back-good k (c .before .before .before .side-fault2 .ensures) (c .before .before .if3 .left) in
-    let few : _ < 65536 = counted-few k in
-    search
-
-returns-5 : tie.Need-returns-5
-returns-5 c =
-    let k = c .before .before .before .before .before .before .before .before .before .before .before .pre in
-    last-decides k (c .mirrors-fault2 .ensures)
-    (labels-pass k (c .before .before .before .before .before .before .before .before .words-fault .ensures) (c .before .before .before .before .before .before .before .if1 .left))
-    (there-passes k (c .before .before .before .before .before .before .side-fault .ensures) (c .before .before .before .before .before .if2 .left))
-    (back-passes k (c .before .before .before .before .side-fault2 .ensures) (c .before .before .before .if3 .left))
-    (mirrors-pass k (c .before .before .mirrors-fault .ensures) (c .before .if4 .left))
+returns-4 c =
+    let k = c .before .before .before .before .before .before .before .before .before .pre in
+    mirrors-decide k (c .mirrors-fault .ensures)
+    (labels-pass k (c .before .before .before .before .before .before .words-fault .ensures) (c .before .before .before .before .before .if1 .left))
+    (there-passes k (c .before .before .before .before .side-fault .ensures) (c .before .before .before .if2 .left))
+    (back-passes k (c .before .before .side-fault2 .ensures) (c .before .if3 .left))
 
 pub sides-fault-spec : {M : Type 1} → statement M
 sides-fault-spec =
@@ -77,6 +65,4 @@ sides-fault-spec =
     side-fault-requires-2
     returns-3
     mirrors-fault-requires
-    returns-4
-    mirrors-fault-requires-2
-    returns-5)
+    returns-4)
