@@ -1,0 +1,19 @@
+-- `judge_runs::damage::some_of` is safe and ends. Assumes nothing.
+use borrow.Author.Needs.{needs}
+use mathlib.Core.Path.{sym}
+use lib.Seq.{length-take-le}
+use native.Mathlib.Omega.{arith}
+use Rattle.judge_runs.proofs.damage.some_of.Statement.{statement}
+use Rattle.judge_runs.proofs.damage.some_of.Tie as tie
+
+slice-aggregate-result : tie.Need-slice-aggregate-result
+slice-aggregate-result c = sym (length-take-le _ _ (omega arith))
+
+returns : tie.Need-returns
+returns c = search needs
+
+returns-2 : tie.Need-returns-2
+returns-2 c = search needs
+
+pub some-of-spec : {M : Type 1} → statement M
+some-of-spec = tie.close (tie.spec slice-aggregate-result returns returns-2)
