@@ -1,4 +1,5 @@
 -- Laws of Load: the file's faults, and the stable counting pass that fills the store.
+pub mod Entries
 pub mod Refused
 pub mod Grouped
 pub mod Sorted

@@ -1,5 +1,5 @@
 -- The faults of a graph file, part by part. Assumes nothing.
-use mathlib.Core.Path.{_≡_, refl, sym, _∙_, ap}
+use mathlib.Core.Path.{_≡_, refl, sym, _∙_, ap, ap₂}
 use mathlib.Core.Bool.{Bool, not}
 use mathlib.Core.List.{List, [], _∷_, map, map-append}
 use Prim.Native.Nat.{ℕ, zero, suc, _+_, _≤_, _<_}
@@ -14,11 +14,12 @@ use Rattle.lists.proofs.Tests.{iff, not-true}
 use Rattle.lists.proofs.All.{length-range}
 use Rattle.lists.proofs.Faults.{first-append, first-head, first-tail, refuse-zero, first-left, first-stop}
 use Rattle.packed.proofs.Laws.{field-lt}
-use Rattle.graph.specs.Graph.{forward, key}
+use Rattle.graph.specs.Graph.{forward, entry, key}
 use Rattle.graph.specs.File.{graphOf, graphFault, edgeIn, edgeFault, edgeCount, vertexCount, fileSize, badEdge, ascends}
 use Rattle.graph.specs.Store.{usedWords, storeSize, loadFault}
 use Rattle.graph.proofs.Loads.{load-fits}
 use Rattle.load.specs.Reading.{Whole, edgeWith, faultFrom, lengthFault, edgesFault}
+use Rattle.load.proofs.Entries.{entry-edge}
 
 -- A fault of the length or of the fill bits comes before those of edges.
 pub graph-length : (s : List ℕ) → (lengthFault s ≡ 0 → ⊥) → graphFault s ≡ lengthFault s
@@ -66,29 +67,31 @@ pub faultless-start : (s : List ℕ) → Faultless s 0 0
 unfolding leastKey range first
 faultless-start s = record { key-before = refl; none = refl }
 
--- The fields and the fault that the code has read of edge i.
-pub record Tested (s : List ℕ) (n least i a l b r : ℕ) : Type 0 where
+-- The source, the forward entry and the fault that the code has of edge i.
+pub record Tested (s : List ℕ) (n least i a e r : ℕ) : Type 0 where
   pub vertices : n ≡ vertexCount s
   pub earlier : Faultless s least i
   pub source : a ≡ edgeIn s i .source
-  pub label : l ≡ edgeIn s i .label
-  pub target : b ≡ edgeIn s i .target
-  pub fault : r ≡ faultFrom n least (edgeWith a l b)
+  pub its-entry : e ≡ entry forward (edgeIn s i)
+  pub fault : r ≡ faultFrom n least (edgeWith a e)
 
-module _ (s : List ℕ) {n least i a l b r : ℕ} (t : Tested s n least i a l b r) where
+module _ (s : List ℕ) {n least i a e r : ℕ} (t : Tested s n least i a e r) where
+  its-edge : edgeWith a e ≡ edgeIn s i
+  its-edge = ap₂ edgeWith (t .source) (t .its-entry) ∙ entry-edge s i
+
   tested : r ≡ edgeFault s i
-  tested = t .fault ∙ rw (t .vertices, t .source, t .label, t .target, t .earlier .key-before) (sym (edge-from s i))
+  tested = t .fault ∙ ap (faultFrom n least) its-edge ∙ rw (t .vertices, t .earlier .key-before) (sym (edge-from s i))
 
   pub tested-found : i < edgeCount s → (r ≡ 0 → ⊥) → r ≡ edgesFault s
   unfolding edgesFault
-  tested-found h k = tested ∙ sym (first-stop (edgeFault s) (edgeCount s) i h (t .earlier .none) (λ z. k (tested ∙ z)))
+  tested-found h z = tested ∙ sym (first-stop (edgeFault s) (edgeCount s) i h (t .earlier .none) (λ j. z (tested ∙ j)))
 
-  pub tested-more : r ≡ 0 → {k : ℕ} → k ≡ key forward (edgeWith a l b) → Faultless s (k + 1) (i + 1)
+  pub tested-more : r ≡ 0 → {k : ℕ} → k ≡ key forward (edgeWith a e) → Faultless s (k + 1) (i + 1)
   unfolding leastKey range first
-  tested-more z e =
+  tested-more z f =
       rw (add-one i)
       (record {
-        key-before = rw (e, t .source, t .label, t .target) (add-one _);
+        key-before = ap (λ (k : ℕ). k + 1) (f ∙ ap (key forward) its-edge) ∙ add-one _;
         none =
             ap first (map-append (edgeFault s) (range i) (i ∷ []))
             ∙ first-append (map (edgeFault s) (range i)) (edgeFault s i ∷ []) (t .earlier .none) ∙ rw (sym tested ∙ z);

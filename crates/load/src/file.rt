@@ -3,12 +3,13 @@ ghost use mathlib.Core.Path.{_≡_};
 ghost use Prim.Native.Nat.{_+_, _*_, _^_, _≤_, _<_};
 ghost use lib.ListN.{length};
 ghost use Rattle.packed.specs.Field.{fieldAt};
-ghost use Rattle.graph.specs.Graph.{forward, backward, entry, key};
-ghost use Rattle.graph.specs.File.{vertexCount, edgeCount, edgeStart, edgeIn, graphFault};
+ghost use Rattle.graph.specs.Graph.{forward, entry, key};
+ghost use Rattle.graph.specs.File.{vertexCount, edgeCount, edgeIn, graphFault};
 ghost use Rattle.graph.specs.Store.{loadFault};
 ghost use Rattle.load.specs.Reading.{Whole, edgeWith, faultFrom, lengthFault, edgesFault};
 use graph::Graph;
 use packed::field;
+use packed::inner_field;
 
 pub fn vertex_count(file: &[u8]) -> usize
     requires { ⌜ 5 ≤ length (now file) ⌝ }
@@ -40,49 +41,26 @@ fn edge_start(n: usize, i: usize) -> usize
     36 + 16 * n + 40 * i
 }
 
-// One field of edge i: `width` bits, `offset` bits past the edge's start.
-pub fn edge_field(file: &[u8], n: usize, i: usize, offset: usize, width: usize) -> u32
-    requires { ⌜ Whole (now file) n × (i < edgeCount (now file)) × (width ≤ 20) × (offset + width ≤ 40) ⌝ }
-    ensures { λ r. ⌜ (r ≡ fieldAt (now (file .entry)) (edgeStart (now (file .entry)) i + offset) width) × (r < 2 ^ width) ⌝ }
-{
-    field(file, edge_start(n, i) + offset, width)
-}
-
 pub fn source(file: &[u8], n: usize, i: usize) -> u32
     requires { ⌜ Whole (now file) n × (i < edgeCount (now file)) ⌝ }
     ensures { λ r. ⌜ (r ≡ edgeIn (now (file .entry)) i .source) × (r < 65536) ⌝ }
 {
-    edge_field(file, n, i, 0, 16)
+    inner_field(file, edge_start(n, i), 16)
+}
+
+// The entry of edge i on the forward side: its label and its target, which are 24 bits together.
+pub fn forward_entry(file: &[u8], n: usize, i: usize) -> u32
+    requires { ⌜ Whole (now file) n × (i < edgeCount (now file)) ⌝ }
+    ensures { λ r. ⌜ (r ≡ entry forward (edgeIn (now (file .entry)) i)) × (r < 2 ^ 24) ⌝ }
+{
+    inner_field(file, edge_start(n, i) + 16, 24)
 }
 
 pub fn label(file: &[u8], n: usize, i: usize) -> u32
     requires { ⌜ Whole (now file) n × (i < edgeCount (now file)) ⌝ }
     ensures { λ r. ⌜ (r ≡ edgeIn (now (file .entry)) i .label) × (r < 256) ⌝ }
 {
-    edge_field(file, n, i, 16, 8)
-}
-
-pub fn target(file: &[u8], n: usize, i: usize) -> u32
-    requires { ⌜ Whole (now file) n × (i < edgeCount (now file)) ⌝ }
-    ensures { λ r. ⌜ (r ≡ edgeIn (now (file .entry)) i .target) × (r < 65536) ⌝ }
-{
-    edge_field(file, n, i, 24, 16)
-}
-
-// The entry of edge i on the forward side.
-pub fn forward_entry(file: &[u8], n: usize, i: usize) -> u32
-    requires { ⌜ Whole (now file) n × (i < edgeCount (now file)) ⌝ }
-    ensures { λ r. ⌜ r ≡ entry forward (edgeIn (now (file .entry)) i) ⌝ }
-{
-    label(file, n, i) * Graph::SPAN + target(file, n, i)
-}
-
-// The entry of edge i on the backward side.
-pub fn backward_entry(file: &[u8], n: usize, i: usize) -> u32
-    requires { ⌜ Whole (now file) n × (i < edgeCount (now file)) ⌝ }
-    ensures { λ r. ⌜ r ≡ entry backward (edgeIn (now (file .entry)) i) ⌝ }
-{
-    label(file, n, i) * Graph::SPAN + source(file, n, i)
+    forward_entry(file, n, i) / Graph::SPAN
 }
 
 // 1 where the file is shorter than 5 bytes or than its own size, 2 where it is longer or a fill bit is set, else 0.
@@ -107,27 +85,30 @@ fn length_fault(file: &[u8]) -> u32
     0
 }
 
-// (source, label, target) as one number.
-fn edge_key(s: u32, l: u32, t: u32) -> u64
-    ensures { λ r. ⌜ r ≡ key forward (edgeWith s l t) ⌝ }
+// (source, label, target) as one number, of a source and a forward entry.
+fn edge_key(s: u32, e: u32) -> u64
+    requires { ⌜ e < 2 ^ 24 ⌝ }
+    ensures { λ r. ⌜ r ≡ key forward (edgeWith s e) ⌝ }
 {
-    s as u64 * 16777216 + (l as u64 * 65536 + t as u64)
+    s as u64 * 16777216 + e as u64
 }
 
-// 3 where an edge has a vertex not below n or label 0, 4 where its key is below the least that ascends, else 0.
-fn edge_fault(s: u32, l: u32, t: u32, n: usize, least: u64) -> u32
-    ensures { λ r. ⌜ r ≡ faultFrom n least (edgeWith s l t) ⌝ }
+// 3 where an edge of source s and forward entry e has a vertex not below n or label 0, 4 where its key is below the least that
+// ascends, else 0.
+fn edge_fault(s: u32, e: u32, n: usize, least: u64) -> u32
+    requires { ⌜ e < 2 ^ 24 ⌝ }
+    ensures { λ r. ⌜ r ≡ faultFrom n least (edgeWith s e) ⌝ }
 {
     if n <= s as usize {
         return 3;
     }
-    if n <= t as usize {
+    if n <= (e % Graph::SPAN) as usize {
         return 3;
     }
-    if l == 0 {
+    if e / Graph::SPAN == 0 {
         return 3;
     }
-    if edge_key(s, l, t) < least {
+    if edge_key(s, e) < least {
         return 4;
     }
     0
@@ -142,13 +123,12 @@ fn edges_fault(file: &[u8], n: usize, m: usize) -> u32
     let mut i = 0;
     while i < m {
         let s = source(file, n, i);
-        let l = label(file, n, i);
-        let t = target(file, n, i);
-        let fault = edge_fault(s, l, t, n, least);
+        let e = forward_entry(file, n, i);
+        let fault = edge_fault(s, e, n, least);
         if fault != 0 {
             return fault;
         }
-        least = edge_key(s, l, t) + 1;
+        least = edge_key(s, e) + 1;
         i += 1;
     }
     0

@@ -1,4 +1,4 @@
-// The packed files' one field reader. `specs/Field.antt` says what a field is, `proofs/` has the laws.
+// The packed files' field reader. `specs/Field.antt` says what a field is, `proofs/` has the laws.
 ghost use mathlib.Core.Path.{_≡_};
 ghost use Prim.Native.Nat.{_+_, _*_, _/_, _%_, _^_, _≤_, _<_};
 ghost use lib.ListN.{length, getD};
@@ -18,6 +18,14 @@ fn join(a: u8, b: u8, c: u8, d: u8) -> u64
     (((a as u64) << 8 | b as u64) << 8 | c as u64) << 8 | d as u64
 }
 
+// The 32 bits from byte `i` on, where there are as many.
+fn inner_word(s: &[u8], i: usize) -> u64
+    requires { ⌜ i + 4 ≤ length (now s) ⌝ }
+    ensures { λ r. ⌜ r ≡ fieldAt (now (s .entry)) (8 * i) 32 ⌝ }
+{
+    join(s[i], s[i + 1], s[i + 2], s[i + 3])
+}
+
 // The 32 bits from byte `i` on; bytes past the end count as 0.
 fn word(s: &[u8], i: usize) -> u64
     requires { ⌜ i ≤ length (now s) ⌝ }
@@ -26,12 +34,12 @@ fn word(s: &[u8], i: usize) -> u64
     if s.len() - i < 4 {
         return join(byte(s, i), byte(s, i + 1), byte(s, i + 2), byte(s, i + 3));
     }
-    join(s[i], s[i + 1], s[i + 2], s[i + 3])
+    inner_word(s, i)
 }
 
 // The `width` bits of `w` that have `after` bits after them.
 fn cut(w: u64, after: usize, width: usize) -> u64
-    requires { ⌜ (after ≤ 32) × (width ≤ 20) ⌝ }
+    requires { ⌜ (after ≤ 32) × (width ≤ 25) ⌝ }
     ensures { λ r. ⌜ r ≡ w / 2 ^ after % 2 ^ width ⌝ }
 {
     (w >> after) & ((1u64 << width) - 1)
@@ -40,11 +48,20 @@ fn cut(w: u64, after: usize, width: usize) -> u64
 // The number in the field of `width` bits that begins at bit `at`. Up to 7 bits stand before it in its first byte, so it
 // lies in the 32 bits from there on.
 pub fn field(s: &[u8], at: usize, width: usize) -> u32
-    requires { ⌜ (width ≤ 20) × (at + width ≤ 8 * length (now s)) ⌝ }
+    requires { ⌜ (width ≤ 25) × (at + width ≤ 8 * length (now s)) ⌝ }
     ensures { λ r. ⌜ r ≡ fieldAt (now (s .entry)) at width ⌝ }
 {
     let after = 32 - at % 8 - width;
     cut(word(s, at / 8), after, width) as u32
+}
+
+// The same for a field with which a word begins that is all in the file: no test for the end is made.
+pub fn inner_field(s: &[u8], at: usize, width: usize) -> u32
+    requires { ⌜ (width ≤ 25) × (at / 8 + 4 ≤ length (now s)) ⌝ }
+    ensures { λ r. ⌜ r ≡ fieldAt (now (s .entry)) at width ⌝ }
+{
+    let after = 32 - at % 8 - width;
+    cut(inner_word(s, at / 8), after, width) as u32
 }
 
 // The bytes that `bits` bits take, the last one filled.

@@ -74,8 +74,8 @@ pub fn edge(file: &[u8], n: usize, i: usize) -> (u32, u32, u32) {
     (field(file, at, 16), field(file, at + 16, 8), field(file, at + 24, 16))
 }
 
-/// The counts of a graph file, or refusals 1 to 5.
-pub fn accepted(file: &[u8], room: usize) -> Result<(usize, usize), u32> {
+/// The counts of a graph file, or refusals 1 and 2.
+pub fn counts(file: &[u8]) -> Result<(usize, usize), u32> {
     if file.len() < 5 {
         return Err(1);
     }
@@ -87,6 +87,12 @@ pub fn accepted(file: &[u8], room: usize) -> Result<(usize, usize), u32> {
     if file.len() > size || field(file, 8 * size - 4, 4) != 0 {
         return Err(2);
     }
+    Ok((n, m))
+}
+
+/// The counts of a graph file, or refusals 1 to 5.
+pub fn accepted(file: &[u8], room: usize) -> Result<(usize, usize), u32> {
+    let (n, m) = counts(file)?;
     let mut before = None;
     for i in 0..m {
         let edge = edge(file, n, i);

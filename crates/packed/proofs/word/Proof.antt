@@ -40,37 +40,11 @@ returns c =
           (λ j. c .before .before .before .before .before .before .shared-slice-known .given j .fits),
     )
 
-shared-slice-read-join : tie.Need-shared-slice-read-join
-shared-slice-read-join c = search needs
-
-add-join : tie.Need-add-join
-add-join c = search needs
-
-shared-slice-read-join-2 : tie.Need-shared-slice-read-join-2
-shared-slice-read-join-2 c = search needs
-
-add-join-2 : tie.Need-add-join-2
-add-join-2 c = search needs
-
-shared-slice-read-join-3 : tie.Need-shared-slice-read-join-3
-shared-slice-read-join-3 c = search needs
-
-add-join-3 : tie.Need-add-join-3
-add-join-3 c = search needs
-
-shared-slice-read-join-4 : tie.Need-shared-slice-read-join-4
-shared-slice-read-join-4 c = search needs
-
-join-requires-2 : tie.Need-join-requires-2
-join-requires-2 c κs = search needs
+inner-word-requires : tie.Need-inner-word-requires
+inner-word-requires c κs = search needs
 
 returns-2 : tie.Need-returns-2
-returns-2 c =
-    omega (
-      arith,
-      field-word (c .before .before .before .before .before .before .before .args .s .now) (c .before .before .before .before .before .before .before .args .i)
-          (λ j. c .before .before .before .before .before .before .shared-slice-known .given j .fits),
-    )
+returns-2 c = c .inner-word .ensures
 
 pub word-spec : {M : Type 1} → statement M
 word-spec =
@@ -86,12 +60,5 @@ word-spec =
     byte-requires-4
     join-requires
     returns
-    shared-slice-read-join
-    add-join
-    shared-slice-read-join-2
-    add-join-2
-    shared-slice-read-join-3
-    add-join-3
-    shared-slice-read-join-4
-    join-requires-2
+    inner-word-requires
     returns-2)

@@ -10,6 +10,9 @@ returns : tie.Need-returns
 unfolding first
 returns c = simp (le-ltb _ _ (c .if1 .taken))
 
+cast-if2 : tie.Need-cast-if2
+cast-if2 c = search needs
+
 returns-2 : tie.Need-returns-2
 unfolding first
 returns-2 c = simp (lt-ltb _ _ (c .before .if1 .left), le-ltb _ _ (c .if2 .taken))
@@ -43,4 +46,5 @@ returns-5 c =
 
 pub edge-fault-spec : {M : Type 1} → statement M
 edge-fault-spec =
-    tie.close (tie.spec returns returns-2 returns-3 edge-key-requires returns-4 returns-5)
+    tie.close
+    (tie.spec returns cast-if2 returns-2 returns-3 edge-key-requires returns-4 returns-5)

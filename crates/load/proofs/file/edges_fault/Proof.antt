@@ -22,11 +22,8 @@ loop-holds c = (search needs, faultless-start _)
 source-requires : tie.Need-source-requires Inv-loop μ-loop
 source-requires c κs = search needs
 
-label-requires : tie.Need-label-requires Inv-loop μ-loop
-label-requires c κs = search needs
-
-target-requires : tie.Need-target-requires Inv-loop μ-loop
-target-requires c κs = search needs
+forward-entry-requires : tie.Need-forward-entry-requires Inv-loop μ-loop
+forward-entry-requires c κs = search needs
 
 edge-fault-requires : tie.Need-edge-fault-requires Inv-loop μ-loop
 edge-fault-requires c κs = search needs
@@ -35,11 +32,10 @@ returns : tie.Need-returns Inv-loop μ-loop
 returns c =
     tested-found _
     (record {
-      vertices = c .before .before .before .before .before .before .before .before .pre .0 .vertices;
-      earlier = c .before .before .before .before .before .before .loop .inv .1;
-      source = c .before .before .before .before .source .ensures .0;
-      label = c .before .before .before .label .ensures .0;
-      target = c .before .before .target .ensures .0;
+      vertices = c .before .before .before .before .before .before .before .pre .0 .vertices;
+      earlier = c .before .before .before .before .before .loop .inv .1;
+      source = c .before .before .before .source .ensures .0;
+      its-entry = c .before .before .forward-entry .ensures .0;
       fault = c .before .edge-fault .ensures;
     })
     (omega arith) (c .if1 .taken)
@@ -61,11 +57,10 @@ loop-again c = (
   search needs,
   tested-more _
       (record {
-        vertices = c .before .before .before .before .before .before .before .before .before .pre .0 .vertices;
-        earlier = c .before .before .before .before .before .before .before .loop .inv .1;
-        source = c .before .before .before .before .before .source .ensures .0;
-        label = c .before .before .before .before .label .ensures .0;
-        target = c .before .before .before .target .ensures .0;
+        vertices = c .before .before .before .before .before .before .before .before .pre .0 .vertices;
+        earlier = c .before .before .before .before .before .before .loop .inv .1;
+        source = c .before .before .before .before .source .ensures .0;
+        its-entry = c .before .before .before .forward-entry .ensures .0;
         fault = c .before .before .edge-fault .ensures;
       })
       (c .before .if1 .left) (c .edge-key .ensures),
@@ -85,8 +80,7 @@ edges-fault-spec =
     μ-loop
     loop-holds
     source-requires
-    label-requires
-    target-requires
+    forward-entry-requires
     edge-fault-requires
     returns
     edge-key-requires

@@ -1,17 +1,24 @@
 -- `load::file::source` meets its contract: the source stands at the edge's start. Assumes nothing.
 use mathlib.Core.Path.{_∙_, ap}
 use Prim.Native.Nat.{ℕ}
-use native.Mathlib.Nat.{add-zero}
+use native.Mathlib.Omega.{arith}
 use borrow.Author.Needs.{needs}
 use Rattle.packed.specs.Field.{fieldAt}
+use Rattle.packed.proofs.Laws.{field-lt}
 use Rattle.load.proofs.file.source.Statement.{statement}
 use Rattle.load.proofs.file.source.Tie as tie
 
-edge-field-requires : tie.Need-edge-field-requires
-edge-field-requires c κs = search needs
+edge-start-requires : tie.Need-edge-start-requires
+edge-start-requires c κs = search needs
+
+inner-field-requires : tie.Need-inner-field-requires
+inner-field-requires c κs = search needs
 
 returns : tie.Need-returns
-returns c = (c .edge-field .ensures .0 ∙ ap (λ (at : ℕ). fieldAt (c .before .before .args .file .now) at 16) (add-zero _), search needs)
+returns c = (
+  c .inner-field .ensures ∙ ap (λ (at : ℕ). fieldAt (c .before .before .before .args .file .now) at 16) (omega arith),
+  rw (c .inner-field .ensures) (field-lt _ _ 16),
+)
 
 pub source-spec : {M : Type 1} → statement M
-source-spec = tie.close (tie.spec edge-field-requires returns)
+source-spec = tie.close (tie.spec edge-start-requires inner-field-requires returns)

@@ -1,0 +1,28 @@
+-- `load::file::forward_entry` meets its contract: the edge's last 24 bits are its forward entry. Assumes nothing.
+use mathlib.Core.Path.{_∙_, ap}
+use Prim.Native.Nat.{ℕ}
+use native.Mathlib.Omega.{arith}
+use borrow.Author.Needs.{needs}
+use Rattle.packed.specs.Field.{fieldAt}
+use Rattle.packed.proofs.Laws.{field-lt}
+use Rattle.load.proofs.Entries.{entry-field}
+use Rattle.load.proofs.file.forward_entry.Statement.{statement}
+use Rattle.load.proofs.file.forward_entry.Tie as tie
+
+edge-start-requires : tie.Need-edge-start-requires
+edge-start-requires c κs = search needs
+
+add-inner-field : tie.Need-add-inner-field
+add-inner-field c = search needs
+
+inner-field-requires : tie.Need-inner-field-requires
+inner-field-requires c κs = search needs
+
+returns : tie.Need-returns
+returns c = (
+  c .inner-field .ensures ∙ ap (λ (at : ℕ). fieldAt (c .before .before .before .args .file .now) at 24) (omega arith) ∙ entry-field _ _,
+  rw (c .inner-field .ensures) (field-lt _ _ 24),
+)
+
+pub forward-entry-spec : {M : Type 1} → statement M
+forward-entry-spec = tie.close (tie.spec edge-start-requires add-inner-field inner-field-requires returns)

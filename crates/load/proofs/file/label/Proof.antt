@@ -1,0 +1,16 @@
+-- `load::file::label` meets its contract: it is a part of the forward entry. Assumes nothing.
+use mathlib.Core.Path.{_∙_}
+use native.Mathlib.Omega.{arith}
+use borrow.Author.Needs.{needs}
+use Rattle.load.proofs.Entries.{entry-label}
+use Rattle.load.proofs.file.label.Statement.{statement}
+use Rattle.load.proofs.file.label.Tie as tie
+
+forward-entry-requires : tie.Need-forward-entry-requires
+forward-entry-requires c κs = search needs
+
+returns : tie.Need-returns
+returns c = (entry-label _ _ (c .forward-entry .ensures .0), omega arith)
+
+pub label-spec : {M : Type 1} → statement M
+label-spec = tie.close (tie.spec forward-entry-requires returns)
