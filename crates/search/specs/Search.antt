@@ -1,9 +1,10 @@
 -- Searching a list of words. Assumes nothing.
+use mathlib.Core.Bool.{cond}
 use mathlib.Core.List.{List}
 use Prim.Native.Nat.{ℕ, _+_}
-use lib.Dec.{ltb}
-use lib.ListN.{drop}
-use Rattle.lists.specs.Lists.{count}
+use lib.Dec.{eqb, ltb}
+use lib.ListN.{length, drop}
+use Rattle.lists.specs.Lists.{any, count}
 
 -- How many words are below x.
 unfoldable pub below : ℕ → List ℕ → ℕ
@@ -13,3 +14,7 @@ below x s = count (λ (w : ℕ). ltb w x) s
 -- and one more for each of them from there on.
 unfoldable pub firstFrom : List ℕ → ℕ → ℕ → ℕ
 firstFrom s from x = from + below x (drop from s)
+
+-- Where x stands in an ascending list: after the words below it; the length, where it is none of the words.
+unfoldable pub placeOf : List ℕ → ℕ → ℕ
+placeOf s x = cond (any (eqb x) s) (firstFrom s 0 x) (length s)

@@ -2,9 +2,10 @@
 use mathlib.Core.Path.{_≡_, _∙_}
 use mathlib.Core.Bool.{Bool, true, _&&_}
 use mathlib.Core.List.{List}
-use Prim.Native.Nat.{ℕ, _+_, _%_, _≤_, _<_}
+use Prim.Native.Nat.{ℕ, _+_, _-_, _%_, _≤_, _<_}
+use native.Mathlib.Omega.{arith}
 use lib.Dec.{ltb}
-use lib.ListN.{length, getD}
+use lib.ListN.{length, getD, drop, length-take}
 use borrow.Author.Tests.{ltb-true}
 use Rattle.lists.specs.Lists.{all, ascendsFrom, ascending}
 use Rattle.lists.proofs.Tests.{and-l, and-r, and-both}
@@ -48,6 +49,14 @@ good-entry n k t =
 -- The entry at an index of a list that fits.
 pub fit-entry : (n : ℕ) (s : List ℕ) (i : ℕ) → listFits n s ≡ true → i < length s → Entry n (getD s i 0)
 fit-entry n s i e h = good-entry n (getD s i 0) (all-getD (goodEntry n) s i 0 h (fit-entries n s e))
+
+-- A vertex's list is no longer than its last offset.
+pub list-length : (store : List ℕ) (n side v : ℕ) → length (listOn store n side v) ≤ getD store (side + v + 1) 0
+list-length store n side v =
+    omega (
+      arith,
+      length-take (getD store (side + v + 1) 0 - getD store (side + v) 0) (drop (side + n + 1 + getD store (side + v) 0) store),
+    )
 
 -- A side that passes its tests, in a store that has its words.
 pub good-side : (store : List ℕ) (n m side : ℕ) → side + n + 1 + m ≤ length store → sideGood store n m side ≡ true → GoodSide store n side

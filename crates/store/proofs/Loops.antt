@@ -10,10 +10,12 @@ use lib.Dec.{eqb, ltb}
 use lib.ListN.{length, getD, drop, drop-of-length-le}
 use lib.Seq.{drop-cons}
 use borrow.Author.Tests.{eq-eqb, ne-eqb, lt-ltb, le-ltb, le-leb, lt-leb}
-use Rattle.lists.specs.Lists.{bit, range, all, any, ascendsFrom}
+use Rattle.lists.specs.Lists.{bit, range, all, any, ascendsFrom, ascending}
 use Rattle.lists.proofs.Tests.{clash, fails, and-both, eqb-sym}
 use Rattle.lists.proofs.All.{all-at, all-append, all-getD}
 use Rattle.lists.proofs.Bits.{bit-none, bit-some}
+use Rattle.search.specs.Search.{placeOf}
+use Rattle.search.proofs.Places.{place-none, place-some}
 use Rattle.store.specs.Check.{unless, member, risesTo, offsetsFit, listFits}
 
 -- ---- refusals
@@ -33,16 +35,24 @@ pub answer-fails : (b : Bool) {r : ℕ} → r ≡ unless b → (r ≡ 0 → ⊥)
 answer-fails true e h = absurd (h e)
 answer-fails false e h = refl
 
--- The answer of a search for a word tells whether it is a member.
-module _ (x : ℕ) (s : List ℕ) {r : ℕ} (e : r ≡ bit (any (eqb x) s)) where
-  is-member : any (eqb x) s ≡ member x s
-  is-member = ap (λ (t : ℕ → Bool). any t s) (fun-ext (eqb-sym x))
+-- The answer of a search for a word tells whether it is a member, and so does its place.
+module _ (x : ℕ) (s : List ℕ) where
+  is-member : member x s ≡ any (eqb x) s
+  is-member = ap (λ (t : ℕ → Bool). any t s) (sym (fun-ext (eqb-sym x)))
 
-  pub absent : r ≡ 0 → 19 ≡ unless (member x s)
-  absent z = refused (sym is-member ∙ bit-none (any (eqb x) s) e z)
+  module _ {r : ℕ} (e : r ≡ bit (any (eqb x) s)) where
+    pub absent : r ≡ 0 → 19 ≡ unless (member x s)
+    absent z = refused (is-member ∙ bit-none (any (eqb x) s) e z)
 
-  pub present : (r ≡ 0 → ⊥) → 0 ≡ unless (member x s)
-  present f = passes (sym is-member ∙ bit-some (any (eqb x) s) e f)
+    pub present : (r ≡ 0 → ⊥) → 0 ≡ unless (member x s)
+    present f = passes (is-member ∙ bit-some (any (eqb x) s) e f)
+
+  module _ (up : ascending s ≡ true) {r : ℕ} (e : r ≡ placeOf s x) where
+    pub unplaced : r ≡ length s → 19 ≡ unless (member x s)
+    unplaced z = refused (is-member ∙ place-none s x up e z)
+
+    pub placed : (r ≡ length s → ⊥) → 0 ≡ unless (member x s)
+    placed f = passes (is-member ∙ place-some s x up e f .0)
 
 -- The answer to a test that failed is the answer to one that fails with it.
 pub answer-hands : (a b : Bool) {r : ℕ} → r ≡ unless a → (r ≡ 0 → ⊥) → (b ≡ true → a ≡ true) → r ≡ unless b

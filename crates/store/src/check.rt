@@ -1,6 +1,7 @@
 // Refusal 19: whether some accepted graph file loads to a store. Each function answers 19 or 0.
 use crate::neighbours;
 use graph::Graph;
+use search::find;
 use search::has;
 ghost use mathlib.Core.Path.{_≡_};
 ghost use mathlib.Core.Bool.{true};
@@ -111,8 +112,39 @@ fn absent_fault(list: &[u32], x: u32) -> u32
     0
 }
 
+// The same of the list of a vertex, by the vertex's guess of where the word stands, if it has one: the place after the last word
+// guessed. Lists are walked by ascending vertex, so that of one label the next mirror in a list is the next word. A guess that fails
+// is left, if a word stands there: that may be of another label, and come later. Any guess will do.
+fn guessed_fault(list: &[u32], x: u32, guesses: &mut [u32], vertex: usize) -> u32
+    requires { ⌜ (ascending (now list) ≡ true) × (length (now list) < 4294967296) ⌝ }
+    ensures { λ r. ⌜ r ≡ unless (member x (now (list .entry))) ⌝ }
+{
+    if guesses.len() <= vertex {
+        return absent_fault(list, x);
+    }
+    let guess = guesses[vertex] as usize;
+    let place = find(list, x, guess);
+    if place == list.len() {
+        return 19;
+    }
+    if guess < list.len() {
+        if guess != place {
+            return 0;
+        }
+    }
+    guesses[vertex] = (place + 1) as u32;
+    0
+}
+
 // 19 where an entry of vertex v lacks its mirror on the other side: its neighbour's entry of the same label and v; else 0.
-fn mirror_fault(store: &[u32], n: usize, other: usize, v: usize, list: &[u32]) -> u32
+fn mirror_fault(
+    store: &[u32],
+    n: usize,
+    other: usize,
+    v: usize,
+    list: &[u32],
+    guesses: &mut [u32],
+) -> u32
     requires { ⌜ GoodSide (now store) n other ⌝ }
     requires { ⌜ listFits n (now list) ≡ true ⌝ }
     requires { ⌜ (v < n) × (n < 65536) ⌝ }
@@ -121,11 +153,9 @@ fn mirror_fault(store: &[u32], n: usize, other: usize, v: usize, list: &[u32]) -
     let mut i = 0;
     while i < list.len() {
         let entry = list[i];
-        let x = entry % Graph::SPAN;
-        let fault = absent_fault(
-            neighbours(store, n, other, x as usize),
-            entry - x + v as u32,
-        );
+        let x = (entry % Graph::SPAN) as usize;
+        let mirror = entry - entry % Graph::SPAN + v as u32;
+        let fault = guessed_fault(neighbours(store, n, other, x), mirror, guesses, x);
         if fault != 0 {
             return fault;
         }
@@ -135,7 +165,7 @@ fn mirror_fault(store: &[u32], n: usize, other: usize, v: usize, list: &[u32]) -
 }
 
 // 19 unless every entry of a side is mirrored on the other; else 0.
-fn mirrors_fault(store: &[u32], n: usize, side: usize, other: usize) -> u32
+fn mirrors_fault(store: &[u32], n: usize, side: usize, other: usize, guesses: &mut [u32]) -> u32
     requires { ⌜ GoodSide (now store) n side ⌝ }
     requires { ⌜ GoodSide (now store) n other ⌝ }
     requires { ⌜ n < 65536 ⌝ }
@@ -143,7 +173,7 @@ fn mirrors_fault(store: &[u32], n: usize, side: usize, other: usize) -> u32
 {
     let mut v = 0;
     while v < n {
-        let fault = mirror_fault(store, n, other, v, neighbours(store, n, side, v));
+        let fault = mirror_fault(store, n, other, v, neighbours(store, n, side, v), guesses);
         if fault != 0 {
             return fault;
         }
@@ -173,7 +203,14 @@ fn counts_fault(store: &[u32]) -> u32
 }
 
 // 19 where the labels or the sides of a store whose counts are right are not as they should be; else 0.
-fn sides_fault(store: &[u32], n: usize, m: u32, forward: usize, backward: usize) -> u32
+fn sides_fault(
+    store: &[u32],
+    n: usize,
+    m: u32,
+    forward: usize,
+    backward: usize,
+    guesses: &mut [u32],
+) -> u32
     requires { ⌜ Counted (now store) n m forward backward ⌝ }
     ensures { λ r. ⌜ r ≡ storeFault (now (store .entry)) ⌝ }
 {
@@ -190,11 +227,12 @@ fn sides_fault(store: &[u32], n: usize, m: u32, forward: usize, backward: usize)
         return two;
     }
     // Both sides have m entries, told apart: where each forward one has its mirror, no backward one is left over.
-    mirrors_fault(store, n, forward, backward)
+    mirrors_fault(store, n, forward, backward, guesses)
 }
 
-// 19 where no accepted graph file loads to this store, words past the used ones ignored; else 0.
-pub fn store_fault(store: &[u32]) -> u32
+// 19 where no accepted graph file loads to this store, words past the used ones ignored; else 0. The guesses are any number of words
+// and may hold anything: one a vertex makes the check fast.
+pub fn store_fault(store: &[u32], guesses: &mut [u32]) -> u32
     ensures { λ r. ⌜ r ≡ storeFault (now (store .entry)) ⌝ }
 {
     let counts = counts_fault(store);
@@ -202,5 +240,12 @@ pub fn store_fault(store: &[u32]) -> u32
         return counts;
     }
     let g = Graph::of_store(store);
-    sides_fault(store, g.vertices, g.edges as u32, g.forward(), g.backward())
+    sides_fault(
+        store,
+        g.vertices,
+        g.edges as u32,
+        g.forward(),
+        g.backward(),
+        guesses,
+    )
 }

@@ -77,15 +77,23 @@ fn load_row(rounds: Rounds, file: &[u8], store: &mut Vec<u32>) -> Row {
     Row { work: "Load".into(), rows: None, times, sqlite: None }
 }
 
-/// The engine checks a store in each run: here one with no scratch, which is refused at its first row.
+/// The engine checks a store in each run, and takes a word of scratch a vertex for its guesses: here in a scratch of just these, which
+/// the first rows fill, so that the run is refused with 20. As after a run, the guesses are zeroed each time.
 fn check_row(rounds: Rounds, store: &[u32], case: &Case) -> Row {
     let (query, plan) = (case.query(), case.plan());
     let refused = Err(Refusal::ScratchSmall);
+    let mut guesses = vec![0; store[0] as usize];
+    let mut scratch = guesses.clone();
     let times = race(
         rounds,
-        [&mut || assert!(merge::check(store)), &mut || assert!(same::check(store)), &mut || {
-            assert_eq!(trace::run(store, &query, &plan, Cache::Off, &mut [], &mut []), refused)
-        }],
+        [
+            &mut || assert!(merge::check(store)),
+            &mut || {
+                assert!(same::check(store, &mut guesses));
+                guesses.fill(0);
+            },
+            &mut || assert_eq!(trace::run(store, &query, &plan, Cache::Off, &mut scratch, &mut []), refused),
+        ],
     );
     Row { work: "store check alone".into(), rows: None, times, sqlite: None }
 }
