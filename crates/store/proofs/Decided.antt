@@ -2,36 +2,40 @@
 use mathlib.Core.Path.{_≡_, refl, sym, _∙_, ap}
 use mathlib.Core.Bool.{Bool, true, false, _&&_}
 use mathlib.Core.List.{List}
-use Prim.Native.Nat.{ℕ, suc, _+_, _-_}
+use Prim.Native.Nat.{ℕ, suc, _+_, _-_, _<_}
 use native.Mathlib.Omega.{arith}
 use lib.Dec.{ltb}
 use lib.ListN.{take, drop}
 use Rattle.lists.specs.Lists.{all, same}
-use Rattle.lists.proofs.Tests.{and-l}
+use Rattle.lists.proofs.Tests.{and-l, and-r, and-both}
 use Rattle.graph.specs.Graph.{Direction, forward, backward}
 use Rattle.graph.specs.Store.{graphIn, storeOf, storeSize, wellFormed, storeFault}
-use Rattle.store.specs.Side.{verticesIn, edgesIn, sideIn}
+use Rattle.store.specs.Side.{Within, verticesIn, edgesIn, sideIn}
 use Rattle.store.specs.Check.{unless, countsFit, labelsFit, offsetsFit, offsetsOn, sideFits, sideGood, GoodSide, sideMirrored, Counted}
 use Rattle.store.proofs.Counting.{counted-as, forward-room, backward-room}
 use Rattle.store.proofs.Loops.{answer-hands, answer-passes}
+use Rattle.store.proofs.Offsets.{offsets-rising, offsets-within}
 use Rattle.store.proofs.Fits.{good-side}
 use Rattle.store.proofs.Spelt.{Passed, passed-accepted}
 use Rattle.store.proofs.Tested.{accepted-passed}
 
 -- ---- a side
 
--- The answer to the test of the part of a store that holds a side's offsets.
-module _ (store : List ℕ) (n m side : ℕ) {r : ℕ} (e : r ≡ unless (offsetsFit m (take (side + n + 1 - side) (drop side store)))) where
-  answered : r ≡ unless (offsetsFit m (offsetsOn store n side))
-  answered = e ∙ ap (λ (k : ℕ). unless (offsetsFit m (take k (drop side store)))) (let i : side + n + 1 - side ≡ suc n = omega arith in i)
+-- The part of a store that holds a side's offsets.
+pub offsets-part : (store : List ℕ) (n m side : ℕ)
+    → unless (offsetsFit m (take (side + n + 1 - side) (drop side store))) ≡ unless (offsetsFit m (offsetsOn store n side))
+offsets-part store n m side =
+    ap (λ (k : ℕ). unless (offsetsFit m (take k (drop side store)))) (let i : side + n + 1 - side ≡ suc n = omega arith in i)
 
+-- The answer to their test.
+module _ (store : List ℕ) (n m side : ℕ) {r : ℕ} (e : r ≡ unless (offsetsFit m (offsetsOn store n side))) where
   pub offsets-refused : (r ≡ 0 → ⊥) → r ≡ unless (sideGood store n m side)
   offsets-refused h =
-      answer-hands (offsetsFit m (offsetsOn store n side)) (sideGood store n m side) answered h
+      answer-hands (offsetsFit m (offsetsOn store n side)) (sideGood store n m side) e h
       (and-l (offsetsFit m (offsetsOn store n side)) (sideFits store n side))
 
   pub offsets-pass : r ≡ 0 → offsetsFit m (offsetsOn store n side) ≡ true
-  offsets-pass z = answer-passes (offsetsFit m (offsetsOn store n side)) answered z
+  offsets-pass z = answer-passes (offsetsFit m (offsetsOn store n side)) e z
 
   -- Then the lists decide.
   pub offsets-then : r ≡ 0 → unless (sideFits store n side) ≡ unless (sideGood store n m side)
@@ -104,8 +108,10 @@ module _ {store : List ℕ} {n m one two : ℕ} (k : Counted store n m one two) 
   pub labels-refuse : r ≡ unless (labelsBefore store one) → (r ≡ 0 → ⊥) → r ≡ storeFault store
   labels-refuse e h = refuses store (labelsBefore store one) e h (λ p. passed-at k p .labels)
 
-  pub there-refuses : r ≡ unless (sideGood store n m one) → (r ≡ 0 → ⊥) → r ≡ storeFault store
-  there-refuses e h = refuses store (sideGood store n m one) e h (λ p. passed-at k p .there)
+  pub rises-refuse : r ≡ unless (offsetsFit m (offsetsOn store n one)) → (r ≡ 0 → ⊥) → r ≡ storeFault store
+  rises-refuse e h =
+      refuses store (offsetsFit m (offsetsOn store n one)) e h
+      (λ p. and-l (offsetsFit m (offsetsOn store n one)) (sideFits store n one) (passed-at k p .there))
 
   pub back-refuses : r ≡ unless (sideGood store n m two) → (r ≡ 0 → ⊥) → r ≡ storeFault store
   back-refuses e h = refuses store (sideGood store n m two) e h (λ p. passed-at k p .back)
@@ -113,22 +119,32 @@ module _ {store : List ℕ} {n m one two : ℕ} (k : Counted store n m one two) 
   pub labels-pass : r ≡ unless (labelsBefore store one) → r ≡ 0 → labelsBefore store one ≡ true
   labels-pass e z = answer-passes (labelsBefore store one) e z
 
-  pub there-passes : r ≡ unless (sideGood store n m one) → r ≡ 0 → sideGood store n m one ≡ true
-  there-passes e z = answer-passes (sideGood store n m one) e z
+  pub rises-pass : r ≡ unless (offsetsFit m (offsetsOn store n one)) → r ≡ 0 → offsetsFit m (offsetsOn store n one) ≡ true
+  rises-pass e z = offsets-pass store n m one e z
 
   pub back-passes : r ≡ unless (sideGood store n m two) → r ≡ 0 → sideGood store n m two ≡ true
   back-passes e z = answer-passes (sideGood store n m two) e z
 
   -- The last one decides.
-  pub mirrors-decide : r ≡ unless (sideMirrored store n one two) → labelsBefore store one ≡ true → sideGood store n m one ≡ true → sideGood store n m two ≡ true
-      → r ≡ storeFault store
-  mirrors-decide e labels there back =
-      decides store (sideMirrored store n one two) e (λ p. passed-at k p .mirrored)
-      (λ t. at-passed k (record { labels = labels; there = there; back = back; mirrored = t }))
+  pub mirrors-decide : r ≡ unless (sideFits store n one && sideMirrored store n one two) → labelsBefore store one ≡ true
+      → offsetsFit m (offsetsOn store n one) ≡ true → sideGood store n m two ≡ true → r ≡ storeFault store
+  mirrors-decide e labels offsets back =
+      decides store (sideFits store n one && sideMirrored store n one two) e
+      (λ p.
+      and-both (sideFits store n one) (sideMirrored store n one two)
+      (and-r (offsetsFit m (offsetsOn store n one)) (sideFits store n one) (passed-at k p .there)) (passed-at k p .mirrored))
+      (λ t.
+      at-passed k
+      (record {
+        labels = labels;
+        there = and-both (offsetsFit m (offsetsOn store n one)) (sideFits store n one) offsets (and-l (sideFits store n one) (sideMirrored store n one two) t);
+        back = back;
+        mirrored = and-r (sideFits store n one) (sideMirrored store n one two) t;
+      }))
 
   -- What the mirrors need of the sides.
-  pub there-good : r ≡ unless (sideGood store n m one) → r ≡ 0 → GoodSide store n one
-  there-good e z = good-side store n m one (forward-room k) (there-passes e z)
+  pub lists-within : r ≡ unless (offsetsFit m (offsetsOn store n one)) → r ≡ 0 → (v : ℕ) → v < n → Within store n one v
+  lists-within e z = offsets-within store n m one (forward-room k) (offsets-rising store n m one (forward-room k) (rises-pass e z))
 
   pub back-good : r ≡ unless (sideGood store n m two) → r ≡ 0 → GoodSide store n two
   back-good e z = good-side store n m two (backward-room k) (back-passes e z)

@@ -9,7 +9,7 @@ use lib.ListN.{length, getD, drop, length-take}
 use borrow.Author.Tests.{ltb-true}
 use Rattle.lists.specs.Lists.{all, ascendsFrom, ascending}
 use Rattle.lists.proofs.Tests.{and-l, and-r, and-both}
-use Rattle.lists.proofs.All.{all-at, all-and, all-getD}
+use Rattle.lists.proofs.All.{all-at, all-and}
 use Rattle.lists.proofs.Sort.{ascends-tail, ascends-above}
 use Rattle.store.specs.Side.{listOn}
 use Rattle.store.specs.Check.{listFits, offsetsFit, offsetsOn, sideFits, sideGood, GoodSide}
@@ -45,10 +45,6 @@ good-entry n k t =
       fits = ltb-true k 16777216 (search conj);
       inside = ltb-true (k % 65536) n (search conj);
     }
-
--- The entry at an index of a list that fits.
-pub fit-entry : (n : ℕ) (s : List ℕ) (i : ℕ) → listFits n s ≡ true → i < length s → Entry n (getD s i 0)
-fit-entry n s i e h = good-entry n (getD s i 0) (all-getD (goodEntry n) s i 0 h (fit-entries n s e))
 
 -- A vertex's list is no longer than its last offset.
 pub list-length : (store : List ℕ) (n side v : ℕ) → length (listOn store n side v) ≤ getD store (side + v + 1) 0

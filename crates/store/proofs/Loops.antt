@@ -9,14 +9,15 @@ use native.Mathlib.Omega.{arith}
 use lib.Dec.{eqb, ltb}
 use lib.ListN.{length, getD, drop, drop-of-length-le}
 use lib.Seq.{drop-cons}
-use borrow.Author.Tests.{eq-eqb, ne-eqb, lt-ltb, le-ltb, le-leb, lt-leb}
+use borrow.Author.Tests.{eq-eqb, ne-eqb, ltb-true, lt-ltb, le-ltb, le-leb, lt-leb}
 use Rattle.lists.specs.Lists.{bit, range, all, any, ascendsFrom, ascending}
-use Rattle.lists.proofs.Tests.{clash, fails, and-both, eqb-sym}
-use Rattle.lists.proofs.All.{all-at, all-append, all-getD}
+use Rattle.lists.proofs.Tests.{clash, fails, and-l, and-r, and-both, eqb-sym}
+use Rattle.lists.proofs.All.{all-at, all-and, all-append, all-getD}
 use Rattle.lists.proofs.Bits.{bit-none, bit-some}
 use Rattle.search.specs.Search.{placeOf}
 use Rattle.search.proofs.Places.{place-none, place-some}
-use Rattle.store.specs.Check.{unless, member, risesTo, offsetsFit, listFits}
+use Rattle.store.specs.Side.{listOn}
+use Rattle.store.specs.Check.{unless, member, risesTo, offsetsFit, entryFits, listFits, sideFits, listMirrored, sideMirrored}
 
 -- ---- refusals
 
@@ -57,6 +58,16 @@ module _ (x : ℕ) (s : List ℕ) where
 -- The answer to a test that failed is the answer to one that fails with it.
 pub answer-hands : (a b : Bool) {r : ℕ} → r ≡ unless a → (r ≡ 0 → ⊥) → (b ≡ true → a ≡ true) → r ≡ unless b
 answer-hands a b e h f = e ∙ ap unless (answer-fails a e h ∙ sym (fails b (λ t. clash (f t) (answer-fails a e h))))
+
+-- Two tests of which both are passed, or one failed.
+pub both-pass : (a b : Bool) → 0 ≡ unless a → 0 ≡ unless b → 0 ≡ unless (a && b)
+both-pass a b e f = passes (and-both a b (answer-passes a e refl) (answer-passes b f refl))
+
+pub one-fails : (a b : Bool) {r : ℕ} → r ≡ unless a → (r ≡ 0 → ⊥) → r ≡ unless (a && b)
+one-fails a b e h = answer-hands a (a && b) e h (and-l a b)
+
+pub other-fails : (a b : Bool) {r : ℕ} → r ≡ unless b → (r ≡ 0 → ⊥) → r ≡ unless (a && b)
+other-fails a b e h = answer-hands b (a && b) e h (and-r a b)
 
 -- ---- a word after the other
 
@@ -117,6 +128,14 @@ below-stop {p} {n} {v} a h e z = answer-hands (p v) (all p (range n)) e z (λ t.
 pub below-end : {p : ℕ → Bool} {n v : ℕ} → AllBelow p n v → n ≤ v → 0 ≡ unless (all p (range n))
 below-end {p} {n} {v} a h = passes (ap (λ (k : ℕ). all p (range k)) (let e : n ≡ v = omega arith in e) ∙ a .passed)
 
+-- The tests of a side's lists, both at once.
+pub lists-both : (store : List ℕ) (n side other : ℕ)
+    → unless (all (λ (v : ℕ). listFits n (listOn store n side v) && listMirrored store n other v (listOn store n side v)) (range n))
+    ≡ unless (sideFits store n side && sideMirrored store n side other)
+unfolding sideFits sideMirrored
+lists-both store n side other =
+    ap unless (all-and (λ (v : ℕ). listFits n (listOn store n side v)) (λ (v : ℕ). listMirrored store n other v (listOn store n side v)) (range n))
+
 -- ---- offsets
 
 pub record OffsetsFrom (m : ℕ) (s : List ℕ) (last i : ℕ) : Type 0 where
@@ -165,6 +184,24 @@ offsets-end {m} {s} {last} a h z = passes (offsets-last a h ∙ eq-eqb last m z)
 abbrev fits : ℕ → ℕ → Bool
 fits n k = ltb k 16777216 && ltb (k % 65536) n
 
+-- The answers to the test of an entry.
+pub entry-falls : (n last k : ℕ) → k ≤ last → 19 ≡ unless (entryFits n last k)
+entry-falls n last k p = refused {b = entryFits n last k} (rw (le-ltb last k p))
+
+pub entry-wide : (n last k : ℕ) → 16777216 ≤ k → 19 ≡ unless (entryFits n last k)
+entry-wide n last k p = refused {b = entryFits n last k} (simp (le-ltb k 16777216 p, and-false))
+
+pub entry-outside : (n last k : ℕ) → n ≤ k % 65536 → 19 ≡ unless (entryFits n last k)
+entry-outside n last k p = refused {b = entryFits n last k} (simp (le-ltb (k % 65536) n p, and-false))
+
+pub entry-passes : (n last k : ℕ) → last < k → k < 16777216 → k % 65536 < n → 0 ≡ unless (entryFits n last k)
+entry-passes n last k p q r = passes {b = entryFits n last k} (rw (lt-ltb last k p, lt-ltb k 16777216 q, lt-ltb (k % 65536) n r))
+
+pub entry-in : (n last k : ℕ) {r : ℕ} → r ≡ unless (entryFits n last k) → r ≡ 0 → (k < 16777216) × (k % 65536 < n)
+entry-in n last k e z =
+    let t : fits n k ≡ true = and-r (ltb last k) (fits n k) (answer-passes (entryFits n last k) e z) in
+    (ltb-true k 16777216 (and-l (ltb k 16777216) (ltb (k % 65536) n) t), ltb-true (k % 65536) n (and-r (ltb k 16777216) (ltb (k % 65536) n) t))
+
 pub record ListFrom (n : ℕ) (s : List ℕ) (last i : ℕ) : Type 0 where
   pub inside : i ≤ length s
   pub left : listFits n s ≡ (ascendsFrom last (drop i s) && all (fits n) (drop i s))
@@ -179,21 +216,27 @@ module _ {n : ℕ} {s : List ℕ} {last i : ℕ} (a : ListFrom n s last i) (h : 
   unfolding ascendsFrom all
   list-left = a .left ∙ ap (λ (l : List ℕ). ascendsFrom last l && all (fits n) l) (rest s h)
 
-  pub list-next : last < getD s i 0 → getD s i 0 < 16777216 → getD s i 0 % 65536 < n → ListFrom n s (getD s i 0) (i + 1)
-  list-next p q r =
-      record { inside = further; left = list-left ∙ rw (lt-ltb last (getD s i 0) p, lt-ltb (getD s i 0) 16777216 q, lt-ltb (getD s i 0 % 65536) n r) }
-    where
-      further : i + 1 ≤ length s
-      further = omega arith
+  module _ {r : ℕ} (e : r ≡ unless (entryFits n last (getD s i 0))) where
+    pub list-next : r ≡ 0 → ListFrom n s (getD s i 0) (i + 1)
+    list-next z = record { inside = further; left = list-left ∙ rw (and-l (ltb last (getD s i 0)) _ t, and-r (ltb last (getD s i 0)) _ t) }
+      where
+        t : entryFits n last (getD s i 0) ≡ true
+        t = answer-passes (entryFits n last (getD s i 0)) e z
 
-  pub list-falls : getD s i 0 ≤ last → 19 ≡ unless (listFits n s)
-  list-falls p = refused (list-left ∙ rw (le-ltb last (getD s i 0) p))
+        further : i + 1 ≤ length s
+        further = omega arith
 
-  pub list-wide : 16777216 ≤ getD s i 0 → 19 ≡ unless (listFits n s)
-  list-wide p = refused (list-left ∙ simp (le-ltb (getD s i 0) 16777216 p, and-false))
-
-  pub list-outside : n ≤ getD s i 0 % 65536 → 19 ≡ unless (listFits n s)
-  list-outside p = refused (list-left ∙ simp (le-ltb (getD s i 0 % 65536) n p, and-false))
+    pub list-stop : (r ≡ 0 → ⊥) → r ≡ unless (listFits n s)
+    list-stop z = answer-hands (entryFits n last (getD s i 0)) (listFits n s) e z (λ t. parts (sym list-left ∙ t))
+      where
+        parts :
+            ((ltb last (getD s i 0) && ascendsFrom (getD s i 0) (drop (i + 1) s)) && (fits n (getD s i 0) && all (fits n) (drop (i + 1) s))) ≡ true
+            → entryFits n last (getD s i 0) ≡ true
+        parts t =
+            let l : (ltb last (getD s i 0) && ascendsFrom (getD s i 0) (drop (i + 1) s)) ≡ true = and-l _ (fits n (getD s i 0) && all (fits n) (drop (i + 1) s)) t in
+            let f : (fits n (getD s i 0) && all (fits n) (drop (i + 1) s)) ≡ true = and-r (ltb last (getD s i 0) && ascendsFrom (getD s i 0) (drop (i + 1) s)) _ t in
+            and-both (ltb last (getD s i 0)) (fits n (getD s i 0))
+            (and-l (ltb last (getD s i 0)) (ascendsFrom (getD s i 0) (drop (i + 1) s)) l) (and-l (fits n (getD s i 0)) (all (fits n) (drop (i + 1) s)) f)
 
 pub list-end : {n : ℕ} {s : List ℕ} {last i : ℕ} → ListFrom n s last i → length s ≤ i → 0 ≡ unless (listFits n s)
 unfolding ascendsFrom all

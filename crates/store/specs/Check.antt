@@ -38,6 +38,10 @@ offsetsFit m (x ∷ xs) = eqb x 0 && risesTo m x xs
 abbrev pub offsetsOn : List ℕ → ℕ → ℕ → List ℕ
 offsetsOn store n side = take (suc n) (drop side store)
 
+-- An entry of a vertex of n after the last one: it is above that one, its label below 256 and its neighbour below n.
+abbrev pub entryFits : ℕ → ℕ → ℕ → Bool
+entryFits n last k = ltb last k && (ltb k 16777216 && ltb (k % 65536) n)
+
 -- The entries of a vertex of n ascend strictly, with labels 1 to 255 and neighbours below n.
 unfoldable pub listFits : ℕ → List ℕ → Bool
 listFits n s = ascendsFrom 65535 s && all (λ (k : ℕ). ltb k 16777216 && ltb (k % 65536) n) s

@@ -4,14 +4,14 @@ use graph::Graph;
 use search::find;
 use search::has;
 ghost use mathlib.Core.Path.{_≡_};
-ghost use mathlib.Core.Bool.{true};
+ghost use mathlib.Core.Bool.{true, _&&_};
 ghost use Prim.Native.Nat.{ℕ, _+_, _≤_, _<_};
 ghost use lib.Dec.{ltb};
 ghost use lib.ListN.{length};
 ghost use Rattle.lists.specs.Lists.{all, ascending};
 ghost use Rattle.graph.specs.Store.{storeFault};
 ghost use Rattle.store.specs.Side.{Within};
-ghost use Rattle.store.specs.Check.{unless, countsFit, member, offsetsFit, listFits, sideFits, sideGood, GoodSide, listMirrored, sideMirrored, Counted};
+ghost use Rattle.store.specs.Check.{unless, countsFit, member, offsetsFit, offsetsOn, entryFits, listFits, sideFits, sideGood, GoodSide, listMirrored, sideMirrored, Counted};
 
 // 19 where a word is not below an end, else 0.
 fn words_fault(part: &[u32], end: u32) -> u32
@@ -50,6 +50,22 @@ fn offsets_fault(part: &[u32], m: u32) -> u32
     0
 }
 
+// 19 unless an entry is above the last one, has a label below 256 and a neighbour below n; else 0.
+fn entry_fault(entry: u32, last: u32, n: usize) -> u32
+    ensures { λ r. ⌜ r ≡ unless (entryFits n last entry) ⌝ }
+{
+    if entry <= last {
+        return 19;
+    }
+    if Graph::ENTRY_END <= entry {
+        return 19;
+    }
+    if n <= (entry % Graph::SPAN) as usize {
+        return 19;
+    }
+    0
+}
+
 // 19 unless the entries of a vertex ascend strictly, with labels 1 to 255 and neighbours below n; else 0.
 fn list_fault(list: &[u32], n: usize) -> u32
     ensures { λ r. ⌜ r ≡ unless (listFits n (now (list .entry))) ⌝ }
@@ -58,14 +74,9 @@ fn list_fault(list: &[u32], n: usize) -> u32
     let mut i = 0;
     while i < list.len() {
         let entry = list[i];
-        if entry <= last {
-            return 19;
-        }
-        if Graph::ENTRY_END <= entry {
-            return 19;
-        }
-        if n <= (entry % Graph::SPAN) as usize {
-            return 19;
+        let fault = entry_fault(entry, last, n);
+        if fault != 0 {
+            return fault;
         }
         last = entry;
         i += 1;
@@ -89,12 +100,20 @@ fn lists_fault(store: &[u32], n: usize, side: usize) -> u32
     0
 }
 
+// 19 unless the offsets of a side are as they should be; else 0.
+fn side_offsets_fault(store: &[u32], n: usize, m: u32, side: usize) -> u32
+    requires { ⌜ side + n + 1 + m ≤ length (now store) ⌝ }
+    ensures { λ r. ⌜ r ≡ unless (offsetsFit m (offsetsOn (now (store .entry)) n side)) ⌝ }
+{
+    offsets_fault(&store[side..side + n + 1], m)
+}
+
 // 19 unless the offsets of a side and its lists are as they should be; else 0.
 fn side_fault(store: &[u32], n: usize, m: u32, side: usize) -> u32
     requires { ⌜ side + n + 1 + m ≤ length (now store) ⌝ }
     ensures { λ r. ⌜ r ≡ unless (sideGood (now (store .entry)) n m side) ⌝ }
 {
-    let fault = offsets_fault(&store[side..side + n + 1], m);
+    let fault = side_offsets_fault(store, n, m, side);
     if fault != 0 {
         return fault;
     }
@@ -136,8 +155,9 @@ fn guessed_fault(list: &[u32], x: u32, guesses: &mut [u32], vertex: usize) -> u3
     0
 }
 
-// 19 where an entry of vertex v lacks its mirror on the other side: its neighbour's entry of the same label and v; else 0.
-fn mirror_fault(
+// 19 unless the entries of vertex v are as they should be, and each has its mirror on the other side: its neighbour's entry of the same
+// label and v; else 0.
+fn mirrored_list_fault(
     store: &[u32],
     n: usize,
     other: usize,
@@ -146,34 +166,45 @@ fn mirror_fault(
     guesses: &mut [u32],
 ) -> u32
     requires { ⌜ GoodSide (now store) n other ⌝ }
-    requires { ⌜ listFits n (now list) ≡ true ⌝ }
     requires { ⌜ (v < n) × (n < 65536) ⌝ }
-    ensures { λ r. ⌜ r ≡ unless (listMirrored (now (store .entry)) n other v (now (list .entry))) ⌝ }
+    ensures { λ r. ⌜ r ≡ unless (listFits n (now (list .entry)) && listMirrored (now (store .entry)) n other v (now (list .entry))) ⌝ }
 {
+    let mut last = Graph::SPAN - 1;
     let mut i = 0;
     while i < list.len() {
         let entry = list[i];
+        let fault = entry_fault(entry, last, n);
+        if fault != 0 {
+            return fault;
+        }
         let x = (entry % Graph::SPAN) as usize;
         let mirror = entry - entry % Graph::SPAN + v as u32;
         let fault = guessed_fault(neighbours(store, n, other, x), mirror, guesses, x);
         if fault != 0 {
             return fault;
         }
+        last = entry;
         i += 1;
     }
     0
 }
 
-// 19 unless every entry of a side is mirrored on the other; else 0.
-fn mirrors_fault(store: &[u32], n: usize, side: usize, other: usize, guesses: &mut [u32]) -> u32
-    requires { ⌜ GoodSide (now store) n side ⌝ }
+// 19 unless every list of a side is as it should be, and mirrored on the other; else 0. Each list is walked once for both.
+fn mirrored_lists_fault(
+    store: &[u32],
+    n: usize,
+    side: usize,
+    other: usize,
+    guesses: &mut [u32],
+) -> u32
+    requires { ⌜ ((v : ℕ) → v < n → Within (now store) n side v) ⌝ }
     requires { ⌜ GoodSide (now store) n other ⌝ }
     requires { ⌜ n < 65536 ⌝ }
-    ensures { λ r. ⌜ r ≡ unless (sideMirrored (now (store .entry)) n side other) ⌝ }
+    ensures { λ r. ⌜ r ≡ unless (sideFits (now (store .entry)) n side && sideMirrored (now (store .entry)) n side other) ⌝ }
 {
     let mut v = 0;
     while v < n {
-        let fault = mirror_fault(store, n, other, v, neighbours(store, n, side, v), guesses);
+        let fault = mirrored_list_fault(store, n, other, v, neighbours(store, n, side, v), guesses);
         if fault != 0 {
             return fault;
         }
@@ -218,16 +249,16 @@ fn sides_fault(
     if labels != 0 {
         return labels;
     }
-    let one = side_fault(store, n, m, forward);
-    if one != 0 {
-        return one;
+    let offsets = side_offsets_fault(store, n, m, forward);
+    if offsets != 0 {
+        return offsets;
     }
-    let two = side_fault(store, n, m, backward);
-    if two != 0 {
-        return two;
+    let back = side_fault(store, n, m, backward);
+    if back != 0 {
+        return back;
     }
     // Both sides have m entries, told apart: where each forward one has its mirror, no backward one is left over.
-    mirrors_fault(store, n, forward, backward, guesses)
+    mirrored_lists_fault(store, n, forward, backward, guesses)
 }
 
 // 19 where no accepted graph file loads to this store, words past the used ones ignored; else 0. The guesses are any number of words

@@ -78,6 +78,18 @@ impl Case {
     }
 }
 
+/// A query and a plan that list nothing: one edge, from a vertex of a label that no vertex has.
+pub fn nothing() -> (Vec<u8>, Vec<u8>) {
+    let (mut query, mut plan) = (Bits::default(), Bits::default());
+    for (value, bits) in [(2, 4), (1, 5), (65_535, 16), (0, 16), (0, 3), (1, 3), (1, 8)] {
+        query.put(value, bits);
+    }
+    for (value, bits) in [(1, 5), (0, 2), (0, 5)] {
+        plan.put(value, bits);
+    }
+    (query.bytes(), plan.bytes())
+}
+
 fn plain(pairs: &[(u8, u8)]) -> Vec<QueryEdge> {
     pairs.iter().map(|&(a, b)| (a, b, 1)).collect()
 }

@@ -2,7 +2,8 @@
 use Prim.Native.Nat.{_-_}
 use native.Mathlib.Omega.{arith}
 use lib.ListN.{length}
-use Rattle.store.proofs.Loops.{ListFrom, list-start, list-next, list-falls, list-wide, list-outside, list-end}
+use borrow.Author.Needs.{needs}
+use Rattle.store.proofs.Loops.{ListFrom, list-start, list-next, list-stop, list-end}
 use Rattle.store.proofs.check.list_fault.Statement.{statement}
 use Rattle.store.proofs.check.list_fault.Tie as tie
 
@@ -24,17 +25,11 @@ mul-entry c = omega arith
 shared-slice-read-entry : tie.Need-shared-slice-read-entry Inv-loop μ-loop
 shared-slice-read-entry c = omega arith
 
+entry-fault-requires : tie.Need-entry-fault-requires Inv-loop μ-loop
+entry-fault-requires c κs = search needs
+
 returns : tie.Need-returns Inv-loop μ-loop
-returns c = list-falls (c .before .before .before .loop .inv) (omega arith) (c .if1 .taken)
-
-returns-2 : tie.Need-returns-2 Inv-loop μ-loop
-returns-2 c = list-wide (c .before .before .before .before .loop .inv) (omega arith) (c .if2 .taken)
-
-cast-if3 : tie.Need-cast-if3 Inv-loop μ-loop
-cast-if3 c = omega arith
-
-returns-3 : tie.Need-returns-3 Inv-loop μ-loop
-returns-3 c = list-outside (c .before .before .before .before .before .loop .inv) (omega arith) (c .if3 .taken)
+returns c = list-stop (c .before .before .before .before .loop .inv) (omega arith) (c .before .entry-fault .ensures) (c .if1 .taken)
 
 add-i : tie.Need-add-i Inv-loop μ-loop
 add-i c = omega arith
@@ -43,10 +38,10 @@ loop-less : tie.Need-loop-less Inv-loop μ-loop
 loop-less c = omega arith
 
 loop-again : tie.Need-loop-again Inv-loop μ-loop
-loop-again c = list-next (c .before .before .before .before .before .loop .inv) (omega arith) (omega arith) (omega arith) (omega arith)
+loop-again c = list-next (c .before .before .before .before .loop .inv) (omega arith) (c .before .entry-fault .ensures) (c .if1 .left)
 
-returns-4 : tie.Need-returns-4 Inv-loop μ-loop
-returns-4 c = list-end (c .before .loop .inv) (omega arith)
+returns-2 : tie.Need-returns-2 Inv-loop μ-loop
+returns-2 c = list-end (c .before .loop .inv) (omega arith)
 
 pub list-fault-spec : {M : Type 1} → statement M
 list-fault-spec =
@@ -58,11 +53,9 @@ list-fault-spec =
     loop-holds
     mul-entry
     shared-slice-read-entry
+    entry-fault-requires
     returns
-    returns-2
-    cast-if3
-    returns-3
     add-i
     loop-less
     loop-again
-    returns-4)
+    returns-2)

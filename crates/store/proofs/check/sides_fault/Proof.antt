@@ -1,10 +1,8 @@
 -- `store::check::sides_fault` meets its contract: a failed test refuses the store, and the last one decides. Assumes nothing.
-use Prim.Native.Nat.{_<_}
 use native.Mathlib.Omega.{arith}
 use borrow.Author.Needs.{needs}
-use Rattle.store.specs.Check.{GoodSide}
 use Rattle.store.proofs.Counting.{counted-few, forward-room, backward-room}
-use Rattle.store.proofs.Decided.{labels-refuse, there-refuses, back-refuses, labels-pass, there-passes, back-passes, there-good, back-good, mirrors-decide}
+use Rattle.store.proofs.Decided.{labels-refuse, rises-refuse, back-refuses, labels-pass, rises-pass, back-passes, lists-within, back-good, mirrors-decide}
 use Rattle.store.proofs.check.sides_fault.Statement.{statement}
 use Rattle.store.proofs.check.sides_fault.Tie as tie
 
@@ -23,26 +21,25 @@ words-fault-requires c κs = search needs
 returns : tie.Need-returns
 returns c = labels-refuse (c .before .before .before .before .before .pre) (c .before .words-fault .ensures) (c .if1 .taken)
 
-side-fault-requires : tie.Need-side-fault-requires
-side-fault-requires c κs = forward-room (c .before .before .before .before .before .pre)
+side-offsets-fault-requires : tie.Need-side-offsets-fault-requires
+side-offsets-fault-requires c κs = forward-room (c .before .before .before .before .before .pre)
 
 returns-2 : tie.Need-returns-2
-returns-2 c = there-refuses (c .before .before .before .before .before .before .before .pre) (c .before .side-fault .ensures) (c .if2 .taken)
+returns-2 c = rises-refuse (c .before .before .before .before .before .before .before .pre) (c .before .side-offsets-fault .ensures) (c .if2 .taken)
 
-side-fault-requires-2 : tie.Need-side-fault-requires-2
-side-fault-requires-2 c κs = backward-room (c .before .before .before .before .before .before .before .pre)
+side-fault-requires : tie.Need-side-fault-requires
+side-fault-requires c κs = backward-room (c .before .before .before .before .before .before .before .pre)
 
 returns-3 : tie.Need-returns-3
-returns-3 c = back-refuses (c .before .before .before .before .before .before .before .before .before .pre) (c .before .side-fault2 .ensures) (c .if3 .taken)
+returns-3 c = back-refuses (c .before .before .before .before .before .before .before .before .before .pre) (c .before .side-fault .ensures) (c .if3 .taken)
 
-mirrors-fault-requires : tie.Need-mirrors-fault-requires
-mirrors-fault-requires c κs =
+mirrored-lists-fault-requires : tie.Need-mirrored-lists-fault-requires
+mirrored-lists-fault-requires c κs =
     let e = c .before in
-    let k = e .before .before .before .before .before .before .before .before .before .pre in
-    let there : GoodSide _ _ _ = there-good k (e .before .before .before .side-fault .ensures) (e .before .before .if2 .left) in
-    let back : GoodSide _ _ _ = back-good k (e .before .side-fault2 .ensures) (e .if3 .left) in
-    let few : _ < 65536 = counted-few k in
-    search
+    let k = e .before .before .before .before .before .before .before .before .before .pre in (
+      lists-within k (e .before .before .before .side-offsets-fault .ensures) (e .before .before .if2 .left),
+      (back-good k (e .before .side-fault .ensures) (e .if3 .left), counted-few k),
+    )
 
 same-length : tie.Need-same-length
 same-length c = search needs
@@ -52,10 +49,10 @@ returns-4 c =
     let m = c .before .before in
     let e = m .before .before in
     let k = e .before .before .before .before .before .before .before .before .before .pre in
-    mirrors-decide k (m .mirrors-fault .ensures)
+    mirrors-decide k (m .mirrored-lists-fault .ensures)
     (labels-pass k (e .before .before .before .before .before .words-fault .ensures) (e .before .before .before .before .if1 .left))
-    (there-passes k (e .before .before .before .side-fault .ensures) (e .before .before .if2 .left))
-    (back-passes k (e .before .side-fault2 .ensures) (e .if3 .left))
+    (rises-pass k (e .before .before .before .side-offsets-fault .ensures) (e .before .before .if2 .left))
+    (back-passes k (e .before .side-fault .ensures) (e .if3 .left))
 
 pub sides-fault-spec : {M : Type 1} → statement M
 sides-fault-spec =
@@ -66,10 +63,10 @@ sides-fault-spec =
     part-words-fault-end
     words-fault-requires
     returns
-    side-fault-requires
+    side-offsets-fault-requires
     returns-2
-    side-fault-requires-2
+    side-fault-requires
     returns-3
-    mirrors-fault-requires
+    mirrored-lists-fault-requires
     same-length
     returns-4)
