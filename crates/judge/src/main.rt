@@ -4,6 +4,7 @@
 mod stream;
 mod tables;
 mod worked;
+mod worked_inputs;
 
 use libc::STDOUT_FILENO;
 

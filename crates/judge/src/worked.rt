@@ -4,15 +4,13 @@ use crate::tables::G;
 use crate::tables::P;
 use crate::tables::Q;
 use crate::tables::WANT;
+use crate::worked_inputs;
 use judge_inputs::graphs;
 use judge_inputs::plans;
-use judge_inputs::plans::EXTEND;
-use judge_inputs::plans::JOIN;
-use judge_inputs::plans::SCAN;
-use judge_inputs::plans::then;
 use judge_inputs::queries;
 use judge_oracle::brute;
 use judge_oracle::model;
+use judge_oracle::results;
 use judge_runs::tally;
 use judge_runs::tally::WORKED;
 use judge_words::bits;
@@ -39,107 +37,6 @@ fn same_bytes(a: &[u8], b: &[u8]) -> bool {
     true
 }
 
-// Edges of label 1 from one place to two others.
-fn fork(g: &mut [u32], s: usize, t: usize, u: usize) {
-    graphs::put_edge(g, 0, s, t);
-    graphs::put_edge(g, 0, s, u);
-}
-
-fn graph_g(g: &mut [u32]) {
-    graphs::start(g, 4, 1, 0, 0);
-    fork(g, 0, 1, 2);
-    fork(g, 1, 2, 3);
-    graphs::put_edge(g, 0, 2, 3);
-}
-
-fn graph_k(g: &mut [u32]) {
-    graphs::start(g, 5, 1, 0, 0);
-    fork(g, 0, 2, 3);
-    fork(g, 1, 2, 3);
-    fork(g, 2, 3, 4);
-    graphs::put_edge(g, 0, 3, 4);
-}
-
-fn graph_loop(g: &mut [u32]) {
-    graphs::start(g, 1, 1, 0, 0);
-    graphs::put_edge(g, 0, 0, 0);
-}
-
-// Two edges of different labels from 0 to 1 and from 1 to 2; one from 0 to 2.
-fn graph_parallel(g: &mut [u32]) {
-    graphs::start(g, 3, 1, 0, 0);
-    fork(g, 0, 1, 2);
-    graphs::put_edge(g, 1, 0, 1);
-    graphs::put_edge(g, 0, 1, 2);
-    graphs::put_edge(g, 1, 1, 2);
-}
-
-fn query_triangle(q: &mut [u32]) {
-    queries::start(q, 3);
-    queries::put_edge(q, 0, 1, 0);
-    queries::put_edge(q, 0, 2, 0);
-    queries::put_edge(q, 1, 2, 0);
-    queries::finish(q);
-}
-
-// X, the diamond.
-fn query_diamond(q: &mut [u32]) {
-    queries::start(q, 4);
-    queries::put_edge(q, 0, 1, 0);
-    queries::put_edge(q, 0, 2, 0);
-    queries::put_edge(q, 1, 2, 0);
-    queries::put_edge(q, 1, 3, 0);
-    queries::put_edge(q, 2, 3, 0);
-    queries::finish(q);
-}
-
-// Two query edges join the same pair.
-fn query_pair(q: &mut [u32]) {
-    queries::start(q, 2);
-    queries::put_edge(q, 0, 1, 0);
-    queries::put_edge(q, 0, 1, 1);
-    queries::finish(q);
-}
-
-// A vertex that two parallel query edges lead to.
-fn query_parallel(q: &mut [u32]) {
-    queries::start(q, 3);
-    queries::put_edge(q, 0, 1, 0);
-    queries::put_edge(q, 1, 2, 0);
-    queries::put_edge(q, 1, 2, 1);
-    queries::finish(q);
-}
-
-// A scan, and extends by one or two vertices; 8 stands for none.
-fn plan_of(p: &mut [u32], q: &[u32], edge: usize, first: usize, second: usize) {
-    plans::start(p);
-    then(p, q, SCAN, edge);
-    if first == 8 {
-        return;
-    }
-    then(p, q, EXTEND, first);
-    if second == 8 {
-        return;
-    }
-    then(p, q, EXTEND, second);
-}
-
-// Scan 2, extend 0, scan 2, extend 3, join.
-fn bushy_plan(p: &mut [u32], q: &[u32]) {
-    plan_of(p, q, 2, 0, 8);
-    then(p, q, SCAN, 2);
-    then(p, q, EXTEND, 3);
-    then(p, q, JOIN, 0);
-}
-
-// Scan 0, scan 2, extend 3, join: the query edge from 0 to 2 lies in neither side.
-fn losing_plan(p: &mut [u32], q: &[u32]) {
-    plan_of(p, q, 0, 8, 8);
-    then(p, q, SCAN, 2);
-    then(p, q, EXTEND, 3);
-    then(p, q, JOIN, 0);
-}
-
 // The row of an index, its vertices as the digits of a number in base 16.
 fn digits(q: &[u32], rows: &[u32], r: usize) -> usize {
     brute::key(rows, times(r, 8), queries::vertices(q))
@@ -147,11 +44,11 @@ fn digits(q: &[u32], rows: &[u32], r: usize) -> usize {
 
 // The model's numbers are those worked by hand: rows, need, cost, cost with the cache, build, probe, first row and last row.
 fn are_worked(want: &[u32], q: &[u32], rows: &[u32], sums: &[u32]) -> bool {
-    let count = word(sums, model::ROWS);
+    let count = word(sums, results::ROWS);
     if count != word(want, 0) {
         return false;
     }
-    if word(sums, model::NEED) != word(want, 1) {
+    if word(sums, results::NEED) != word(want, 1) {
         return false;
     }
     if !are_sums(want, sums) {
@@ -167,22 +64,22 @@ fn are_worked(want: &[u32], q: &[u32], rows: &[u32], sums: &[u32]) -> bool {
 }
 
 fn are_sums(want: &[u32], sums: &[u32]) -> bool {
-    if word(sums, model::COST) != word(want, 2) {
+    if word(sums, results::COST) != word(want, 2) {
         return false;
     }
-    if word(sums, model::CACHED_COST) != word(want, 3) {
+    if word(sums, results::CACHED_COST) != word(want, 3) {
         return false;
     }
-    if word(sums, model::BUILD) != word(want, 4) {
+    if word(sums, results::BUILD) != word(want, 4) {
         return false;
     }
-    word(sums, model::PROBE) == word(want, 5)
+    word(sums, results::PROBE) == word(want, 5)
 }
 
 // The model's numbers of a worked plan.
 fn judge_numbers(case: usize, g: &[u32], q: &[u32], p: &[u32], tally: &mut [u64; 64]) {
     let mut rows = [0u32; stream::ROW_WORDS];
-    let mut sums = [0u32; model::SUMS];
+    let mut sums = [0u32; results::SUMS];
     let want = wanted(case);
     model::work(g, q, p, &mut rows, &mut sums);
     tally::judge(tally, WORKED, are_worked(&want, q, &rows, &sums));
@@ -214,74 +111,6 @@ fn load_graph(g: &[u32], store: &mut [u32], tally: &mut [u64; 64]) {
     );
 }
 
-fn set_graph(g: &mut [u32], case: usize) {
-    if case == 5 {
-        graph_k(g);
-        return;
-    }
-    if case == 6 {
-        graph_loop(g);
-        return;
-    }
-    if case == 7 {
-        graphs::start(g, 0, 1, 0, 0);
-        return;
-    }
-    if 7 < case {
-        graph_parallel(g);
-        return;
-    }
-    graph_g(g);
-}
-
-fn set_query(q: &mut [u32], case: usize) {
-    if case == 8 {
-        query_pair(q);
-        return;
-    }
-    if case == 9 {
-        query_parallel(q);
-        return;
-    }
-    if case < 3 {
-        query_triangle(q);
-        return;
-    }
-    if case < 6 {
-        query_diamond(q);
-        return;
-    }
-    query_triangle(q);
-}
-
-fn set_plan(p: &mut [u32], q: &[u32], case: usize) {
-    if case == 1 {
-        plan_of(p, q, 2, 0, 8);
-        return;
-    }
-    if case == 2 {
-        plan_of(p, q, 1, 1, 8);
-        return;
-    }
-    if case == 4 {
-        bushy_plan(p, q);
-        return;
-    }
-    if case == 8 {
-        plan_of(p, q, 0, 8, 8);
-        return;
-    }
-    if case == 3 {
-        plan_of(p, q, 2, 0, 3);
-        return;
-    }
-    if case == 5 {
-        plan_of(p, q, 2, 0, 3);
-        return;
-    }
-    plan_of(p, q, 0, 2, 8);
-}
-
 // The numbers of a case.
 fn wanted(case: usize) -> [u32; 8] {
     let mut want = [0u32; 8];
@@ -299,9 +128,9 @@ fn case(case: usize, tally: &mut [u64; 64]) {
     let mut q = [0u32; queries::WORDS];
     let mut p = [0u32; plans::WORDS];
     tally::next_case(tally);
-    set_graph(&mut g, case);
-    set_query(&mut q, case);
-    set_plan(&mut p, &q, case);
+    worked_inputs::set_graph(&mut g, case);
+    worked_inputs::set_query(&mut q, case);
+    worked_inputs::set_plan(&mut p, &q, case);
     plan_case(case, &g, &q, &p, tally);
 }
 
@@ -323,7 +152,7 @@ fn cases(tally: &mut [u64; 64]) {
 fn judge_graph_file(tally: &mut [u64; 64]) {
     let mut g = [0u32; graphs::WORDS];
     let mut file = [0u8; stream::GRAPH_BYTES];
-    graph_g(&mut g);
+    worked_inputs::graph_g(&mut g);
     let length = graphs::write(&g, &mut file);
     tally::judge(tally, WORKED, same_bytes(head(&file, length), &G));
 }
@@ -331,7 +160,7 @@ fn judge_graph_file(tally: &mut [u64; 64]) {
 fn judge_query_file(tally: &mut [u64; 64]) {
     let mut q = [0u32; queries::WORDS];
     let mut file = [0u8; stream::QUERY_BYTES];
-    query_triangle(&mut q);
+    worked_inputs::query_triangle(&mut q);
     let length = queries::write(&q, &mut file);
     tally::judge(tally, WORKED, same_bytes(head(&file, length), &Q));
 }
@@ -340,8 +169,8 @@ fn judge_plan_file(tally: &mut [u64; 64]) {
     let mut q = [0u32; queries::WORDS];
     let mut p = [0u32; plans::WORDS];
     let mut file = [0u8; stream::PLAN_BYTES];
-    query_triangle(&mut q);
-    plan_of(&mut p, &q, 0, 2, 8);
+    worked_inputs::query_triangle(&mut q);
+    worked_inputs::plan_of(&mut p, &q, 0, 2, 8);
     let length = plans::write(&p, &mut file);
     tally::judge(tally, WORKED, same_bytes(head(&file, length), &P));
     tally::judge(tally, WORKED, plan::check_fault(&Q, head(&P, 2)) == 12);
@@ -353,8 +182,8 @@ fn judge_lost_edge(tally: &mut [u64; 64]) {
     let mut p = [0u32; plans::WORDS];
     let mut query = [0u8; stream::QUERY_BYTES];
     let mut plan = [0u8; stream::PLAN_BYTES];
-    query_diamond(&mut q);
-    losing_plan(&mut p, &q);
+    worked_inputs::query_diamond(&mut q);
+    worked_inputs::losing_plan(&mut p, &q);
     let query_bytes = queries::write(&q, &mut query);
     let plan_bytes = plans::write(&p, &mut plan);
     let refusal = plan::check_fault(head(&query, query_bytes), head(&plan, plan_bytes));

@@ -3,4 +3,5 @@
 pub mod brute;
 pub mod model;
 pub mod refusals;
+pub mod results;
 pub mod stores;

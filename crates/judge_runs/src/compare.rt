@@ -1,24 +1,16 @@
 // The engine's runs against what the model and the matcher say.
+use crate::attempts::attempt;
+use crate::attempts::is_refusal;
 use crate::tally;
 use judge_inputs::graphs;
 use judge_inputs::queries;
 use judge_oracle::brute;
-use judge_oracle::model;
+use judge_oracle::results;
 use judge_words::numbers::add;
-use judge_words::numbers::all_are;
-use judge_words::numbers::fill;
 use judge_words::numbers::grow;
 use judge_words::numbers::times;
 use judge_words::numbers::word;
 use run::RunAnswer;
-
-// What scratch and list hold before a run.
-const JUNK: usize = 2863311530;
-
-const MARK: usize = 3735928559;
-
-// What is lent has as many words after it, which a run must leave.
-const MARGIN: usize = 8;
 
 // The matches found by the matcher: their keys, how often the rows at hand had each, and how many there are.
 pub const MAX_FOUND: usize = 4096;
@@ -27,142 +19,24 @@ pub const SEEN: usize = 4096;
 
 pub const TOTAL: usize = 8192;
 
-// An answer that no run gives.
-fn none() -> RunAnswer {
-    RunAnswer {
-        refusal: 99,
-        rows: 0,
-        cost: 0,
-        build: 0,
-        probe: 0,
-    }
-}
-
-// A run with so many words of scratch and list.
-fn lend(
-    store: &[u32],
-    query: &[u8],
-    plan: &[u8],
-    cache: bool,
-    scratch: &mut [u32],
-    words: usize,
-    list: &mut [u32],
-    room: usize,
-) -> RunAnswer {
-    if scratch.len() < words {
-        return none();
-    }
-    if list.len() < room {
-        return none();
-    }
-    run::run(
-        store,
-        query,
-        plan,
-        cache,
-        &mut scratch[..words],
-        &mut list[..room],
-    )
-}
-
-// The list's words that a run of rows of a width may have written.
-fn written(a: RunAnswer, width: usize) -> usize {
-    if a.refusal == 0 {
-        return times(a.rows, width);
-    }
-    0
-}
-
-// A run over marked words of scratch and list.
-fn run_marked(
-    store: &[u32],
-    query: &[u8],
-    plan: &[u8],
-    cache: bool,
-    scratch: &mut [u32],
-    words: usize,
-    list: &mut [u32],
-    room: usize,
-) -> RunAnswer {
-    fill(scratch, 0, add(words, MARGIN), JUNK);
-    fill(list, 0, add(room, MARGIN), MARK);
-    lend(store, query, plan, cache, scratch, words, list, room)
-}
-
-// What a run leaves: scratch cleared, the words after it as they were, and the list's words past the last row.
-fn judge_left(
-    a: RunAnswer,
-    scratch: &[u32],
-    words: usize,
-    list: &[u32],
-    room: usize,
-    width: usize,
-    tally: &mut [u64; 64],
-) {
-    tally::judge(tally, tally::CLEARED, all_are(scratch, 0, words, 0));
-    tally::judge(
-        tally,
-        tally::CLEARED,
-        all_are(scratch, words, add(words, MARGIN), JUNK),
-    );
-    tally::judge(
-        tally,
-        tally::UNTOUCHED,
-        all_are(list, written(a, width), add(room, MARGIN), MARK),
-    );
-}
-
-// A run over marked words of scratch and list, with what it leaves there judged.
-pub fn attempt(
-    store: &[u32],
-    query: &[u8],
-    plan: &[u8],
-    cache: bool,
-    scratch: &mut [u32],
-    words: usize,
-    list: &mut [u32],
-    room: usize,
-    width: usize,
-    tally: &mut [u64; 64],
-) -> RunAnswer {
-    let a = run_marked(store, query, plan, cache, scratch, words, list, room);
-    tally::count_refusal(tally, a.refusal);
-    judge_left(a, scratch, words, list, room, width, tally);
-    a
-}
-
-// A refusal answers its number, and every other number is 0.
-pub fn is_refusal(a: RunAnswer, refusal: u32) -> bool {
-    if a.refusal != refusal {
-        return false;
-    }
-    if a.rows != 0 {
-        return false;
-    }
-    if a.cost != 0 {
-        return false;
-    }
-    if a.build != 0 {
-        return false;
-    }
-    a.probe == 0
-}
+// Above every key: a row has at most eight places, each below 16.
+const NO_KEY: usize = 4294967296;
 
 // An accepted run's answer is the model's, with one of its two costs.
 fn is_answer(a: RunAnswer, sums: &[u32], cost: usize) -> bool {
     if a.refusal != 0 {
         return false;
     }
-    if a.rows != word(sums, model::ROWS) {
+    if a.rows != word(sums, results::ROWS) {
         return false;
     }
     if a.cost != word(sums, cost) as u64 {
         return false;
     }
-    if a.build != word(sums, model::BUILD) as u64 {
+    if a.build != word(sums, results::BUILD) as u64 {
         return false;
     }
-    a.probe == word(sums, model::PROBE) as u64
+    a.probe == word(sums, results::PROBE) as u64
 }
 
 fn is_row(g: &[u32], n: usize, rows: &[u32], r: usize, list: &[u32]) -> bool {
@@ -188,14 +62,14 @@ fn are_rows(g: &[u32], n: usize, rows: &[u32], count: usize, list: &[u32]) -> bo
     true
 }
 
-// The key of the list's row at an index; MARK where it has a number that has no place.
+// The key of the list's row at an index; NO_KEY where it has a number that has no place.
 fn key_at(g: &[u32], n: usize, list: &[u32], at: usize) -> usize {
     let mut key = 0;
     let mut v = 0;
     while v < n {
         let k = graphs::place(g, word(list, add(at, v)));
         if 15 < k {
-            return MARK;
+            return NO_KEY;
         }
         key = key % 268435456 * 16 + k;
         v += 1;
@@ -248,12 +122,12 @@ fn judge_rows(
     list: &[u32],
     tally: &mut [u64; 64],
 ) {
-    let count = word(sums, model::ROWS);
+    let count = word(sums, results::ROWS);
     let once = are_matches(g, n, list, a.rows, found, lists);
     tally::judge(tally, tally::MATCHES, once);
     tally::judge(tally, tally::NEED, a.refusal != 20);
     tally::judge(tally, tally::ROOM, a.refusal != 21);
-    tally::judge(tally, tally::ORDER, is_answer(a, sums, model::COST));
+    tally::judge(tally, tally::ORDER, is_answer(a, sums, results::COST));
     tally::judge(tally, tally::ORDER, are_rows(g, n, rows, count, list));
 }
 
@@ -272,14 +146,14 @@ fn compare_exact(
     list: &mut [u32],
     tally: &mut [u64; 64],
 ) {
-    let room = times(word(sums, model::ROWS), n);
+    let room = times(word(sums, results::ROWS), n);
     let a = attempt(
         store,
         query,
         plan,
         false,
         scratch,
-        word(sums, model::NEED),
+        word(sums, results::NEED),
         list,
         room,
         n,
@@ -301,8 +175,8 @@ fn compare_cached(
     list: &mut [u32],
     tally: &mut [u64; 64],
 ) {
-    let count = word(sums, model::ROWS);
-    let words = add(word(sums, model::NEED), 5);
+    let count = word(sums, results::ROWS);
+    let words = add(word(sums, results::NEED), 5);
     let room = add(times(count, n), 3);
     let a = attempt(
         store,
@@ -316,11 +190,15 @@ fn compare_cached(
         n,
         tally,
     );
-    tally::judge(tally, tally::CACHE, is_answer(a, sums, model::CACHED_COST));
     tally::judge(
         tally,
         tally::CACHE,
-        a.cost <= word(sums, model::COST) as u64,
+        is_answer(a, sums, results::CACHED_COST),
+    );
+    tally::judge(
+        tally,
+        tally::CACHE,
+        a.cost <= word(sums, results::COST) as u64,
     );
     tally::judge(tally, tally::CACHE, are_rows(g, n, rows, count, list));
 }
@@ -337,11 +215,11 @@ fn compare_short_scratch(
     list: &mut [u32],
     tally: &mut [u64; 64],
 ) {
-    let need = word(sums, model::NEED);
+    let need = word(sums, results::NEED);
     if need == 0 {
         return;
     }
-    let room = times(word(sums, model::ROWS), n);
+    let room = times(word(sums, results::ROWS), n);
     let a = attempt(
         store,
         query,
@@ -369,11 +247,11 @@ fn compare_short_list(
     list: &mut [u32],
     tally: &mut [u64; 64],
 ) {
-    let room = times(word(sums, model::ROWS), n);
+    let room = times(word(sums, results::ROWS), n);
     if room == 0 {
         return;
     }
-    let words = word(sums, model::NEED);
+    let words = word(sums, results::NEED);
     let a = attempt(
         store,
         query,
@@ -391,18 +269,18 @@ fn compare_short_list(
 
 // Counts what the stream had.
 fn count_plan(sums: &[u32], tally: &mut [u64; 64]) {
-    let rows = word(sums, model::ROWS);
+    let rows = word(sums, results::ROWS);
     tally::count(tally, tally::ROWS, rows);
     tally::count(tally, tally::FILLED, (0 < rows) as usize);
     tally::count(
         tally,
         tally::JOINED,
-        (0 < word(sums, model::JOINS)) as usize,
+        (0 < word(sums, results::JOINS)) as usize,
     );
     tally::count(
         tally,
         tally::SAVED,
-        (word(sums, model::CACHED_COST) < word(sums, model::COST)) as usize,
+        (word(sums, results::CACHED_COST) < word(sums, results::COST)) as usize,
     );
 }
 

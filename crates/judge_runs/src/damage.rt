@@ -1,5 +1,5 @@
 // Damaged files and stores, and plans of random operators, against the refusals that they are to get.
-use crate::compare;
+use crate::attempts;
 use crate::loading;
 use crate::tally;
 use judge_inputs::plans;
@@ -126,8 +126,8 @@ fn compare_refused(
     if refusal == 0 {
         return;
     }
-    let a = compare::attempt(store, query, plan, true, scratch, 20, list, 20, 8, tally);
-    tally::judge(tally, kind, compare::is_refusal(a, refusal));
+    let a = attempts::attempt(store, query, plan, true, scratch, 20, list, 20, 8, tally);
+    tally::judge(tally, kind, attempts::is_refusal(a, refusal));
 }
 
 // A damaged plan: what Check plan and Run answer.
@@ -255,7 +255,7 @@ fn compare_store(
     list: &mut [u32],
     tally: &mut [u64; 64],
 ) {
-    let a = compare::attempt(
+    let a = attempts::attempt(
         damaged,
         query,
         plan,
@@ -271,7 +271,7 @@ fn compare_store(
         tally::judge(tally, tally::DAMAGED_STORE, a.refusal != 19);
         return;
     }
-    tally::judge(tally, tally::DAMAGED_STORE, compare::is_refusal(a, 19));
+    tally::judge(tally, tally::DAMAGED_STORE, attempts::is_refusal(a, 19));
 }
 
 // A store with a word or two changed, and a word less or more than it has.

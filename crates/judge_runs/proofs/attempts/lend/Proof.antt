@@ -1,10 +1,10 @@
--- `judge_runs::compare::lend` is safe and ends. Assumes nothing.
+-- `judge_runs::attempts::lend` is safe and ends. Assumes nothing.
 use borrow.Author.Needs.{needs}
 use mathlib.Core.Path.{sym}
 use lib.Seq.{length-take-le}
 use native.Mathlib.Omega.{arith}
-use Rattle.judge_runs.proofs.compare.lend.Statement.{statement}
-use Rattle.judge_runs.proofs.compare.lend.Tie as tie
+use Rattle.judge_runs.proofs.attempts.lend.Statement.{statement}
+use Rattle.judge_runs.proofs.attempts.lend.Tie as tie
 
 none-requires : tie.Need-none-requires
 none-requires c κs = search needs
