@@ -3,8 +3,9 @@ use mathlib.Core.Path.{_≡_, sym, _∙_, ap}
 use mathlib.Core.List.{List, [], _∷_}
 use Prim.Native.Nat.{ℕ, zero, suc, _+_, _-_, _≤_}
 use native.Mathlib.Nat.{sub-zero, suc-sub-suc, zero-sub}
-use lib.ListN.{take, drop}
-use lib.Seq.{take-nil, take-take}
+use native.Mathlib.Omega.{arith}
+use lib.ListN.{length, take, drop, length-drop}
+use lib.Seq.{take-nil, take-take, take-all}
 
 module _ {A : Type 0} where
   pub drop-take : (n k : ℕ) (l : List A) → drop n (take k l) ≡ take (k - n) (drop n l)
@@ -20,4 +21,8 @@ module _ {A : Type 0} where
       ∙ take-take j (k - n) (drop n t) (fits n j k h)
     where
       fits : (n j k : ℕ) → n + j ≤ k → j ≤ k - n
-      fits n j k h = omega native.Mathlib.Omega.arith
+      fits n j k h = omega arith
+
+  -- As many elements as there are from a position on are all of them.
+  pub rest-at : (l : List A) (at : ℕ) → take (length l - at) (drop at l) ≡ drop at l
+  rest-at l at = take-all (length l - at) (drop at l) (rw length-drop (omega arith))
