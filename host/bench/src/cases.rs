@@ -94,6 +94,10 @@ fn plain(pairs: &[(u8, u8)]) -> Vec<QueryEdge> {
     pairs.iter().map(|&(a, b)| (a, b, 1)).collect()
 }
 
+pub fn path() -> Case {
+    Case::new("path of two edges", 3, plain(&[(0, 1), (1, 2)]), &[Scan(0, 1), Extend(2)])
+}
+
 pub fn triangle() -> Case {
     Case::new("triangle", 3, plain(&[(0, 1), (0, 2), (1, 2)]), &[Scan(0, 1), Extend(2)])
 }
@@ -128,9 +132,9 @@ pub fn bowtie() -> Case {
     Case::new("two triangles sharing a vertex, by a join", 5, edges, &steps)
 }
 
-/// The cases by extends alone, which list few rows even where hubs are large.
+/// The cases by extends alone, whose rows fit memory even where hubs are large.
 pub fn by_extends() -> Vec<Case> {
-    vec![triangle(), diamond(), tailed_triangle(), clique()]
+    vec![path(), triangle(), diamond(), tailed_triangle(), clique()]
 }
 
 pub fn by_joins() -> Vec<Case> {
