@@ -1,5 +1,4 @@
 -- `load::file::label` meets its contract: it is a part of the forward entry. Assumes nothing.
-use mathlib.Core.Path.{_∙_}
 use native.Mathlib.Omega.{arith}
 use borrow.Author.Needs.{needs}
 use Rattle.load.proofs.Entries.{entry-label}
