@@ -7,6 +7,7 @@ pub mod Sides
 pub mod Placing
 pub mod Filling
 pub mod Counting
+pub mod Forward
 pub mod ByLabel
 pub mod ByTarget
 pub mod Written

@@ -2,7 +2,7 @@
 use mathlib.Core.Path.{_≡_, refl, sym, _∙_, ap, ap₂}
 use mathlib.Core.Bool.{Bool, not}
 use mathlib.Core.List.{List, [], _∷_, map, map-append}
-use Prim.Native.Nat.{ℕ, zero, suc, _+_, _≤_, _<_}
+use Prim.Native.Nat.{ℕ, zero, suc, _+_, _/_, _%_, _≤_, _<_}
 use native.Mathlib.Numerals.{add-one}
 use native.Mathlib.Omega.{arith}
 use lib.Dec.{ltb}
@@ -67,34 +67,58 @@ pub faultless-start : (s : List ℕ) → Faultless s 0 0
 unfolding leastKey range first
 faultless-start s = record { key-before = refl; none = refl }
 
--- The source, the forward entry and the fault that the code has of edge i.
-pub record Tested (s : List ℕ) (n least i a e r : ℕ) : Type 0 where
+-- The fault of an edge by the tests in turn.
+module _ (n least a e : ℕ) where
+  pub fault-source : n ≤ a → 3 ≡ faultFrom n least (edgeWith a e)
+  unfolding first
+  fault-source h = simp (le-ltb a n h)
+
+  module _ (s-in : a < n) where
+    pub fault-target : n ≤ e % 65536 → 3 ≡ faultFrom n least (edgeWith a e)
+    unfolding first
+    fault-target h = simp (lt-ltb a n s-in, le-ltb (e % 65536) n h)
+
+    module _ (t-in : e % 65536 < n) where
+      pub fault-label : e / 65536 ≡ 0 → 3 ≡ faultFrom n least (edgeWith a e)
+      unfolding first
+      fault-label h = simp (lt-ltb a n s-in, lt-ltb (e % 65536) n t-in, eq-eqb (e / 65536) 0 h)
+
+      module _ (labelled : e / 65536 ≡ 0 → ⊥) {k : ℕ} (its : k ≡ key forward (edgeWith a e)) where
+        pub fault-order : k < least → 4 ≡ faultFrom n least (edgeWith a e)
+        unfolding first
+        fault-order h = simp (lt-ltb a n s-in, lt-ltb (e % 65536) n t-in, ne-eqb (e / 65536) 0 labelled, lt-ltb (key forward (edgeWith a e)) least (rw its at h))
+
+        pub fault-none : least ≤ k → 0 ≡ faultFrom n least (edgeWith a e)
+        unfolding first
+        fault-none h = simp (lt-ltb a n s-in, lt-ltb (e % 65536) n t-in, ne-eqb (e / 65536) 0 labelled, le-ltb (key forward (edgeWith a e)) least (rw its at h))
+
+-- The source and the forward entry that the code has read of edge i.
+pub record Read (s : List ℕ) (n least i a e : ℕ) : Type 0 where
   pub vertices : n ≡ vertexCount s
   pub earlier : Faultless s least i
   pub source : a ≡ edgeIn s i .source
   pub its-entry : e ≡ entry forward (edgeIn s i)
-  pub fault : r ≡ faultFrom n least (edgeWith a e)
 
-module _ (s : List ℕ) {n least i a e r : ℕ} (t : Tested s n least i a e r) where
+module _ {s : List ℕ} {n least i a e : ℕ} (t : Read s n least i a e) where
   its-edge : edgeWith a e ≡ edgeIn s i
   its-edge = ap₂ edgeWith (t .source) (t .its-entry) ∙ entry-edge s i
 
-  tested : r ≡ edgeFault s i
-  tested = t .fault ∙ ap (faultFrom n least) its-edge ∙ rw (t .vertices, t .earlier .key-before) (sym (edge-from s i))
+  its-fault : {r : ℕ} → r ≡ faultFrom n least (edgeWith a e) → r ≡ edgeFault s i
+  its-fault f = f ∙ ap (faultFrom n least) its-edge ∙ rw (t .vertices, t .earlier .key-before) (sym (edge-from s i))
 
-  pub tested-found : i < edgeCount s → (r ≡ 0 → ⊥) → r ≡ edgesFault s
+  pub read-fault : {r : ℕ} → i < edgeCount s → r ≡ faultFrom n least (edgeWith a e) → (r ≡ 0 → ⊥) → r ≡ edgesFault s
   unfolding edgesFault
-  tested-found h z = tested ∙ sym (first-stop (edgeFault s) (edgeCount s) i h (t .earlier .none) (λ j. z (tested ∙ j)))
+  read-fault h f z = its-fault f ∙ sym (first-stop (edgeFault s) (edgeCount s) i h (t .earlier .none) (λ j. z (its-fault f ∙ j)))
 
-  pub tested-more : r ≡ 0 → {k : ℕ} → k ≡ key forward (edgeWith a e) → Faultless s (k + 1) (i + 1)
+  pub read-more : {k : ℕ} → 0 ≡ faultFrom n least (edgeWith a e) → k ≡ key forward (edgeWith a e) → Faultless s (k + 1) (i + 1)
   unfolding leastKey range first
-  tested-more z f =
+  read-more z f =
       rw (add-one i)
       (record {
         key-before = ap (λ (k : ℕ). k + 1) (f ∙ ap (key forward) its-edge) ∙ add-one _;
         none =
             ap first (map-append (edgeFault s) (range i) (i ∷ []))
-            ∙ first-append (map (edgeFault s) (range i)) (edgeFault s i ∷ []) (t .earlier .none) ∙ rw (sym tested ∙ z);
+            ∙ first-append (map (edgeFault s) (range i)) (edgeFault s i ∷ []) (t .earlier .none) ∙ rw (sym (its-fault z));
       })
 
 -- ---- Load

@@ -93,28 +93,8 @@ fn edge_key(s: u32, e: u32) -> u64
     s as u64 * 16777216 + e as u64
 }
 
-// 3 where an edge of source s and forward entry e has a vertex not below n or label 0, 4 where its key is below the least that
-// ascends, else 0.
-fn edge_fault(s: u32, e: u32, n: usize, least: u64) -> u32
-    requires { ⌜ e < 2 ^ 24 ⌝ }
-    ensures { λ r. ⌜ r ≡ faultFrom n least (edgeWith s e) ⌝ }
-{
-    if n <= s as usize {
-        return 3;
-    }
-    if n <= (e % Graph::SPAN) as usize {
-        return 3;
-    }
-    if e / Graph::SPAN == 0 {
-        return 3;
-    }
-    if edge_key(s, e) < least {
-        return 4;
-    }
-    0
-}
-
-// 3 or 4 of the first edge at fault, else 0. `least` is one more than the key of the edge before.
+// 3 or 4 of the first edge at fault, else 0. `least` is one more than the key of the edge before. The tests stand in the loop, so that each
+// is a branch that is never taken.
 fn edges_fault(file: &[u8], n: usize, m: usize) -> u32
     requires { ⌜ Whole (now file) n × (m ≡ edgeCount (now file)) ⌝ }
     ensures { λ r. ⌜ r ≡ edgesFault (now (file .entry)) ⌝ }
@@ -124,11 +104,20 @@ fn edges_fault(file: &[u8], n: usize, m: usize) -> u32
     while i < m {
         let s = source(file, n, i);
         let e = forward_entry(file, n, i);
-        let fault = edge_fault(s, e, n, least);
-        if fault != 0 {
-            return fault;
+        if n <= s as usize {
+            return 3;
         }
-        least = edge_key(s, e) + 1;
+        if n <= (e % Graph::SPAN) as usize {
+            return 3;
+        }
+        if e / Graph::SPAN == 0 {
+            return 3;
+        }
+        let key = edge_key(s, e);
+        if key < least {
+            return 4;
+        }
+        least = key + 1;
         i += 1;
     }
     0
