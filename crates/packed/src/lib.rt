@@ -60,8 +60,7 @@ pub fn inner_field(s: &[u8], at: usize, width: usize) -> u32
     requires { ⌜ (width ≤ 25) × (at / 8 + 4 ≤ length (now s)) ⌝ }
     ensures { λ r. ⌜ r ≡ fieldAt (now (s .entry)) at width ⌝ }
 {
-    let after = 32 - at % 8 - width;
-    cut(inner_word(s, at / 8), after, width) as u32
+    cut(inner_word(s, at / 8), 32 - at % 8 - width, width) as u32
 }
 
 // The bytes that `bits` bits take, the last one filled.

@@ -6,14 +6,14 @@ use Rattle.packed.proofs.Shifts.{low-fits}
 use Rattle.packed.proofs.inner_field.Statement.{statement}
 use Rattle.packed.proofs.inner_field.Tie as tie
 
-sub-after : tie.Need-sub-after
-sub-after c = search needs
-
-sub-after-2 : tie.Need-sub-after-2
-sub-after-2 c = search needs
-
 inner-word-requires : tie.Need-inner-word-requires
 inner-word-requires c κs = search needs
+
+sub-cut : tie.Need-sub-cut
+sub-cut c = search needs
+
+sub-cut-2 : tie.Need-sub-cut-2
+sub-cut-2 c = search needs
 
 cut-requires : tie.Need-cut-requires
 cut-requires c κs = search needs
@@ -26,4 +26,4 @@ returns c = rw (c .cut .ensures, c .before .inner-word .ensures) (field-cut _ _ 
 
 pub inner-field-spec : {M : Type 1} → statement M
 inner-field-spec =
-    tie.close (tie.spec sub-after sub-after-2 inner-word-requires cut-requires cast-result returns)
+    tie.close (tie.spec inner-word-requires sub-cut sub-cut-2 cut-requires cast-result returns)
