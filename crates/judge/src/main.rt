@@ -1,22 +1,26 @@
-// The judge: random graphs, queries, plans and damage, and the cases of document 01, through the engine's operations, compared with
-// a matcher that tries assignments and with the judge's own reading of document 01. It shares no code with the engine. It prints how
-// often each kind of result was compared and how often it differed.
+// The judge: random graphs, queries and plans through the engine's operations, compared with a matcher that tries assignments. It
+// shares no code with the engine. It prints how often each kind of result was compared and how often it differed.
+mod compare;
+mod damage;
+mod matcher;
+mod runs;
+mod slices;
 mod stream;
-mod tables;
+mod tally;
+mod ticks;
 mod worked;
-mod worked_inputs;
 
 use libc::STDOUT_FILENO;
 
-const GRAPHS: usize = 1000;
+const GRAPHS: usize = 1400;
 
 const SEED: u64 = 88172645463325252;
 
 fn main() {
     let mut seed = SEED;
-    let mut tally = [0u64; 64];
+    let mut tally = [0u64; tally::WORDS];
     io::write_all(STDOUT_FILENO, b"judge\n");
-    worked::judge(&mut tally);
-    stream::judge(GRAPHS, &mut seed, &mut tally);
-    judge_runs::tally::print(&tally);
+    worked::judge_cases(&mut seed, &mut tally);
+    stream::judge_graphs(GRAPHS, &mut seed, &mut tally);
+    tally::print(&tally);
 }

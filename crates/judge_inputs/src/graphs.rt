@@ -1,288 +1,175 @@
-// Graphs: up to 16 vertices that have edges, named by their places, spread over the numbers below N, and up to four edge labels.
-// A graph is one slice: its counts, the vertices' labels, then for each label, source and target whether the edge is there.
-use judge_words::bits;
-use judge_words::numbers::add;
-use judge_words::numbers::fill;
-use judge_words::numbers::put;
-use judge_words::numbers::times;
-use judge_words::numbers::word;
-use judge_words::random::below;
-use judge_words::random::chance;
+// A graph: up to 15 vertices that may have edges, named by their places, and spread over the numbers below N. It is one array: the
+// words named below, then a cell for each source, label and target, in the file's order, which is 1 where the edge is there.
+use crate::bits::add;
+use crate::bits::bytes_for;
+use crate::bits::put_field;
+use crate::bits::sub;
+use crate::random::below;
+use crate::random::chance;
 
-pub const WORDS: usize = 1056;
+pub type Graph = [usize; WORDS];
 
-pub const MAX_PLACES: usize = 16;
+pub const WORDS: usize = 1032;
 
-pub const LABELS: usize = 4;
+pub const FILE_BYTES: usize = 4096;
 
-const PLACES: usize = 0;
+pub const VERTICES: usize = 0;
 
-const VERTICES: usize = 1;
+pub const EDGES: usize = 1;
 
-const STRIDE: usize = 2;
+pub const PLACES: usize = 2;
 
+// The number of place 0, and the bits by which a place is shifted to get from there to its number.
 const FIRST: usize = 3;
 
-const VERTEX_LABELS: usize = 16;
+const SHIFT: usize = 4;
 
-const EDGES: usize = 32;
+// How many edge labels are used, and how often of a hundred an edge is drawn.
+const EDGE_LABELS: usize = 5;
 
-pub fn places(g: &[u32]) -> usize {
-    word(g, PLACES)
+const PERCENT: usize = 6;
+
+// Two bits of this word for each place choose its label.
+const LABELS: usize = 7;
+
+const CELLS: usize = 8;
+
+const CELL_COUNT: usize = 1024;
+
+// Above every place.
+pub const NO_PLACE: usize = 16;
+
+// The vertex number of a place.
+fn number(g: &Graph, k: usize) -> usize {
+    add(g[FIRST], (k % 16) << (g[SHIFT] % 8))
 }
 
-pub fn vertices(g: &[u32]) -> usize {
-    word(g, VERTICES)
+// The place of a vertex number, or NO_PLACE.
+pub fn place(g: &Graph, v: usize) -> usize {
+    let k = sub(v, g[FIRST]) >> (g[SHIFT] % 8);
+    if (k < g[PLACES]) & (number(g, k) == v) {
+        return k;
+    }
+    NO_PLACE
 }
 
 // The edge label of an index below 4.
 pub fn edge_label(l: usize) -> usize {
-    if l == 0 {
-        return 1;
-    }
-    if l == 1 {
-        return 2;
-    }
-    if l == 2 {
-        return 128;
-    }
-    255
+    let labels = [1, 2, 128, 255];
+    labels[l % 4]
 }
 
-// The vertex number of a place.
-pub fn number(g: &[u32], k: usize) -> usize {
-    add(word(g, FIRST), times(k, word(g, STRIDE)))
-}
-
-// The place of a vertex number, or 16 where the vertex has none.
-pub fn place(g: &[u32], v: usize) -> usize {
-    let mut k = 0;
-    let end = places(g);
-    while k < end {
-        if number(g, k) == v {
-            return k;
-        }
-        k += 1;
-    }
-    MAX_PLACES
+// The vertex label that the i-th two bits of a word choose.
+pub fn vertex_label(word: usize, i: usize) -> usize {
+    let labels = [0, 5, 700, 0];
+    labels[(word >> (i % 16 * 2)) % 4]
 }
 
 // The label of the vertex of a place.
-pub fn label(g: &[u32], k: usize) -> usize {
-    word(g, add(VERTEX_LABELS, k % 16))
+pub fn label(g: &Graph, k: usize) -> usize {
+    vertex_label(g[LABELS], k)
 }
 
-fn cell(l: usize, s: usize, t: usize) -> usize {
-    EDGES + l % 4 * 256 + s % 16 * 16 + t % 16
+// The graph has the edge of a label's index between two places.
+pub fn has(g: &Graph, s: usize, l: usize, t: usize) -> bool {
+    g[CELLS + s % 16 * 64 + l % 4 * 16 + t % 16] == 1
 }
 
-// 1 where the graph has the edge of a label's index between two places, else 0.
-pub fn has(g: &[u32], l: usize, s: usize, t: usize) -> usize {
-    word(g, cell(l, s, t))
-}
-
-pub fn put_edge(g: &mut [u32], l: usize, s: usize, t: usize) {
-    put(g, cell(l, s, t), 1);
-}
-
-pub fn put_label(g: &mut [u32], k: usize, label: usize) {
-    put(g, add(VERTEX_LABELS, k % 16), label);
-}
-
-// A graph without edges, of so many places and vertices.
-pub fn start(g: &mut [u32], places: usize, stride: usize, first: usize, more: usize) {
-    fill(g, 0, WORDS, 0);
-    put(g, PLACES, places);
-    put(g, STRIDE, stride);
-    put(g, FIRST, first);
-    if places == 0 {
-        put(g, VERTICES, more);
+// Draws the edge of a cell. Place 0 is a hub: its edges are drawn twice as often.
+fn draw_edge(g: &mut Graph, cell: usize, seed: &mut u64) {
+    let places = g[PLACES];
+    let percent = if cell < 64 {
+        add(g[PERCENT], g[PERCENT])
+    } else {
+        g[PERCENT]
+    };
+    if (places <= cell / 64) | (places <= cell % 16) | (g[EDGE_LABELS] <= cell / 16 % 4) {
         return;
     }
-    let last = number(g, places - 1);
-    put(g, VERTICES, add(last, add(1, more)));
-}
-
-// How far apart the vertices of a random graph stand: mostly 1.
-fn random_stride(seed: &mut u64) -> usize {
-    let kind = below(seed, 8);
-    if kind == 0 {
-        return 61;
-    }
-    if kind == 1 {
-        return 7;
-    }
-    1
-}
-
-fn random_vertex_label(seed: &mut u64) -> usize {
-    let kind = below(seed, 4);
-    if kind == 0 {
-        return 5;
-    }
-    if kind == 1 {
-        return 700;
-    }
-    0
-}
-
-// Labels on the vertices of every second graph.
-fn random_labels(g: &mut [u32], seed: &mut u64) {
-    if chance(seed, 50) {
-        return;
-    }
-    let mut k = 0;
-    while k < MAX_PLACES {
-        put_label(g, k, random_vertex_label(seed));
-        k += 1;
-    }
-}
-
-fn random_edge(g: &mut [u32], l: usize, s: usize, t: usize, percent: usize, seed: &mut u64) {
     if chance(seed, percent) {
-        put_edge(g, l, s, t);
+        g[CELLS + cell % CELL_COUNT] = 1;
+        g[EDGES] = add(g[EDGES], 1);
     }
 }
 
-// Of a hub's edges nine in ten are there.
-fn percent_at(s: usize, percent: usize, hub: usize) -> usize {
-    if s == hub {
-        return 90;
-    }
-    percent
-}
-
-fn random_edges_from(g: &mut [u32], l: usize, s: usize, percent: usize, seed: &mut u64) {
-    let last = places(g);
-    let mut t = 0;
-    while t < last {
-        random_edge(g, l, s, t, percent, seed);
-        t += 1;
+fn draw_edges(g: &mut Graph, seed: &mut u64) {
+    for cell in 0..CELL_COUNT {
+        draw_edge(g, cell, seed);
     }
 }
 
-fn random_edges_of(g: &mut [u32], l: usize, percent: usize, hub: usize, seed: &mut u64) {
-    let last = places(g);
-    let mut s = 0;
-    while s < last {
-        random_edges_from(g, l, s, percent_at(s, percent, hub), seed);
-        s += 1;
+// Spreads the places over the numbers, with a few vertices before and after them.
+fn spread(g: &mut Graph, seed: &mut u64) {
+    let places = g[PLACES];
+    g[FIRST] = below(seed, 3);
+    let most = below(seed, 7);
+    g[SHIFT] = below(seed, add(most, 1));
+    g[VERTICES] = below(seed, 3);
+    if 0 < places {
+        g[VERTICES] = add(g[VERTICES], add(number(g, places - 1), 1));
     }
 }
 
-// A random graph of up to so many places.
-pub fn random(g: &mut [u32], most: usize, seed: &mut u64) {
-    let places = below(seed, add(most, 1));
-    let stride = random_stride(seed);
-    let first = below(seed, 3);
-    let more = below(seed, 3);
-    start(g, places, stride, first, more);
-    random_content(g, seed);
+// A graph of so many places and edge labels, each edge drawn so many times of a hundred; every second has labels on its vertices.
+pub fn draw(g: &mut Graph, places: usize, edge_labels: usize, percent: usize, seed: &mut u64) {
+    *g = [0; WORDS];
+    g[PLACES] = places;
+    g[EDGE_LABELS] = edge_labels;
+    g[PERCENT] = percent;
+    if chance(seed, 50) {
+        g[LABELS] = below(seed, 4294967296);
+    }
+    spread(g, seed);
+    draw_edges(g, seed);
 }
 
-fn random_content(g: &mut [u32], seed: &mut u64) {
-    random_labels(g, seed);
-    let labels = add(1, below(seed, 3));
+// A random graph of up to 12 places and three edge labels.
+pub fn random(g: &mut Graph, seed: &mut u64) {
+    let places = below(seed, 13);
+    let edge_labels = add(1, below(seed, 3));
     let percent = add(10, below(seed, 50));
-    let hub = below(seed, 24);
-    let mut l = below(seed, 8) / 7;
-    while l < labels {
-        random_edges_of(g, l, percent, hub, seed);
-        l += 1;
-    }
+    draw(g, places, edge_labels, percent, seed);
 }
 
-// How many edges a graph has.
-pub fn edges(g: &[u32]) -> usize {
-    let mut n = 0;
-    let mut i = EDGES;
-    while i < WORDS {
-        n = add(n, word(g, i));
-        i += 1;
-    }
-    n
-}
-
-// The label in the file of a vertex number; a vertex that has no place has no edges, and some label.
-fn label_of_number(g: &[u32], v: usize) -> usize {
+// The label of a vertex number; one that has no place has no edges, and some label.
+fn label_of_number(g: &Graph, v: usize) -> usize {
     let k = place(g, v);
-    if k < MAX_PLACES {
+    if k < NO_PLACE {
         return label(g, k);
     }
     v % 7
 }
 
-fn write_labels(g: &[u32], file: &mut [u8], from: usize) -> usize {
+fn write_labels(g: &Graph, file: &mut [u8], from: usize) -> usize {
     let mut at = from;
-    let mut v = 0;
-    let end = vertices(g);
-    while v < end {
-        at = bits::put_field(file, at, 16, label_of_number(g, v));
-        v += 1;
+    for v in 0..g[VERTICES] % 65536 {
+        at = put_field(file, at, 16, label_of_number(g, v));
     }
     at
 }
 
-fn write_edge(g: &[u32], l: usize, s: usize, t: usize, file: &mut [u8], at: usize) -> usize {
-    if has(g, l, s, t) == 0 {
+// Writes the edge of a cell, if it is there.
+fn write_edge(g: &Graph, cell: usize, file: &mut [u8], at: usize) -> usize {
+    if g[CELLS + cell % CELL_COUNT] == 0 {
         return at;
     }
-    let a = bits::put_field(file, at, 16, number(g, s));
-    let b = bits::put_field(file, a, 8, edge_label(l));
-    bits::put_field(file, b, 16, number(g, t))
+    let label = put_field(file, at, 16, number(g, cell / 64));
+    let target = put_field(file, label, 8, edge_label(cell / 16));
+    put_field(file, target, 16, number(g, cell))
 }
 
-fn write_edges_of(g: &[u32], l: usize, s: usize, file: &mut [u8], from: usize) -> usize {
+fn write_edges(g: &Graph, file: &mut [u8], from: usize) -> usize {
     let mut at = from;
-    let mut t = 0;
-    while t < MAX_PLACES {
-        at = write_edge(g, l, s, t, file, at);
-        t += 1;
+    for cell in 0..CELL_COUNT {
+        at = write_edge(g, cell, file, at);
     }
     at
 }
 
-fn write_edges_from(g: &[u32], s: usize, file: &mut [u8], from: usize) -> usize {
-    let mut at = from;
-    let mut l = 0;
-    while l < LABELS {
-        at = write_edges_of(g, l, s, file, at);
-        l += 1;
-    }
-    at
-}
-
-// Writes the graph's file and answers its length in bytes.
-pub fn write(g: &[u32], file: &mut [u8]) -> usize {
-    let m = edges(g);
-    let size = add(5, add(times(2, vertices(g)), times(5, m)));
-    bits::clear(file, add(size, 8));
-    let counts = bits::put_field(file, 0, 16, vertices(g));
-    let labels = bits::put_field(file, counts, 20, m);
-    let mut at = write_labels(g, file, labels);
-    let mut s = 0;
-    while s < MAX_PLACES {
-        at = write_edges_from(g, s, file, at);
-        s += 1;
-    }
-    size
-}
-
-// 1 where the graph has the edge from a place to another, or back, else 0.
-fn between(g: &[u32], l: usize, k: usize, t: usize, backward: bool) -> usize {
-    if backward {
-        return has(g, l, t, k);
-    }
-    has(g, l, k, t)
-}
-
-// The portion's length: the edges of a label's index from a place, or to it.
-pub fn degree(g: &[u32], l: usize, k: usize, backward: bool) -> usize {
-    let mut n = 0;
-    let mut t = 0;
-    while t < MAX_PLACES {
-        n = add(n, between(g, l, k, t, backward));
-        t += 1;
-    }
-    n
+// Writes the graph's file over zeros and answers its length in bytes.
+pub fn write(g: &Graph, file: &mut [u8]) -> usize {
+    let edges = put_field(file, 0, 16, g[VERTICES]);
+    let labels = put_field(file, edges, 20, g[EDGES]);
+    let listed = write_labels(g, file, labels);
+    bytes_for(write_edges(g, file, listed))
 }

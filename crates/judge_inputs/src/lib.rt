@@ -1,4 +1,7 @@
-// The judge's graphs, queries and plans: made at random or by hand, and written as packed files.
+// What the judge hands to the engine: random graphs, queries and plans, and their packed files. Every function is total: sums wrap,
+// an index is taken within its array, and a bit outside a file is written nowhere; so none asks anything of its caller.
+pub mod bits;
 pub mod graphs;
 pub mod plans;
 pub mod queries;
+pub mod random;

@@ -1,263 +1,142 @@
-// Plans: one slice with the operators' count, each operator's kind and operand, and the pile of the sets that its results cover.
+// A plan: one array with the words named below, the pile of the sets that the results cover, and the operators, each as a number:
+// 32 for each kind, and the operand.
+use crate::bits::add;
+use crate::bits::put_field;
+use crate::bits::sub;
 use crate::queries;
-use judge_words::bits;
-use judge_words::numbers::add;
-use judge_words::numbers::fill;
-use judge_words::numbers::power;
-use judge_words::numbers::put;
-use judge_words::numbers::sub;
-use judge_words::numbers::word;
-use judge_words::random::below;
-use judge_words::random::chance;
+use crate::queries::Query;
+use crate::random::below;
+use crate::random::chance;
 
-pub const WORDS: usize = 160;
+type Plan = [usize; WORDS];
 
-pub const MAX_OPERATORS: usize = 31;
-
-pub const SCAN: usize = 0;
-
-pub const EXTEND: usize = 1;
-
-pub const JOIN: usize = 2;
+const WORDS: usize = 72;
 
 const COUNT: usize = 0;
 
-const LISTED: usize = 1;
+const DEPTH: usize = 1;
 
-const DEPTH: usize = 80;
+const SETS: usize = 8;
 
-const SETS: usize = 81;
+const OPERATORS: usize = 40;
 
-pub fn count(p: &[u32]) -> usize {
-    word(p, COUNT)
-}
+const MAX_OPERATORS: usize = 31;
 
-pub fn kind(p: &[u32], i: usize) -> usize {
-    word(p, LISTED + i % 32 * 2)
-}
+const EXTEND: usize = 32;
 
-pub fn operand(p: &[u32], i: usize) -> usize {
-    word(p, LISTED + i % 32 * 2 + 1)
-}
-
-pub fn depth(p: &[u32]) -> usize {
-    word(p, DEPTH)
-}
+const JOIN: usize = 64;
 
 // The set of the result that lies under so many others.
-pub fn set_under(p: &[u32], under: usize) -> usize {
-    word(p, add(SETS, sub(depth(p), add(under, 1))))
+fn set_under(p: &Plan, under: usize) -> usize {
+    p[SETS + sub(p[DEPTH], add(under, 1)) % 32]
 }
 
-pub fn start(p: &mut [u32]) {
-    fill(p, 0, WORDS, 0);
+// Adds an operator, whose result covers a set and takes the place of so many.
+fn put(p: &mut Plan, operator: usize, taken: usize, set: usize) {
+    let depth = sub(p[DEPTH], taken);
+    p[OPERATORS + p[COUNT] % 32] = operator;
+    p[COUNT] = add(p[COUNT], 1);
+    p[SETS + depth % 32] = set;
+    p[DEPTH] = add(depth, 1);
 }
 
-// Adds an operator.
-pub fn put_operator(p: &mut [u32], kind: usize, operand: usize) {
-    let n = count(p);
-    let at = LISTED + n % 32 * 2;
-    put(p, at, kind);
-    put(p, at + 1, operand);
-    put(p, COUNT, add(n, 1));
+fn scan(p: &mut Plan, q: &Query, seed: &mut u64) {
+    let i = below(seed, q[queries::EDGES]);
+    let edge = queries::edge(q, i);
+    let ends = queries::only(queries::source(edge)) | queries::only(queries::target(edge));
+    put(p, i, 0, ends);
 }
 
-// Puts a result in place of the top ones.
-fn put_set(p: &mut [u32], taken: usize, set: usize) {
-    let d = sub(depth(p), taken);
-    put(p, add(SETS, d), set);
-    put(p, DEPTH, add(d, 1));
-}
-
-// The two ends of a query edge.
-fn ends(q: &[u32], i: usize) -> usize {
-    power(queries::source(q, i)) | power(queries::target(q, i))
-}
-
-// Adds an operator that keeps the rules, to the list and to the pile.
-pub fn then(p: &mut [u32], q: &[u32], kind: usize, operand: usize) {
-    let i = count(p);
-    put_operator(p, kind, operand);
-    apply(p, q, i);
-}
-
-// A vertex that the top result may be extended by, from a random one on; 8 where there is none.
-fn random_vertex(p: &[u32], q: &[u32], seed: &mut u64) -> usize {
+// Extends the top result by a random vertex, if it may be.
+fn extend(p: &mut Plan, q: &Query, seed: &mut u64) {
+    let v = below(seed, q[queries::VERTICES]) % 8;
     let set = set_under(p, 0);
-    let first = below(seed, 8);
-    let mut i = 0;
-    while i < 8 {
-        let v = add(first, i) % 8;
-        if queries::extends(q, v, set) {
-            return v;
-        }
-        i += 1;
-    }
-    8
-}
-
-// The top two results may be joined.
-fn may_join(p: &[u32], q: &[u32]) -> bool {
-    if depth(p) < 2 {
-        return false;
-    }
-    queries::joins(q, set_under(p, 1), set_under(p, 0))
-}
-
-fn random_scan(p: &mut [u32], q: &[u32], seed: &mut u64) {
-    let i = below(seed, queries::edges(q));
-    then(p, q, SCAN, i);
-}
-
-// Extends the top result, or scans where it cannot be.
-fn random_extend(p: &mut [u32], q: &[u32], seed: &mut u64) {
-    let v = random_vertex(p, q, seed);
-    if v < 8 {
-        then(p, q, EXTEND, v);
+    if set & queries::only(v) != 0 {
         return;
     }
-    random_scan(p, q, seed);
+    if set & queries::neighbours(q, v) != 0 {
+        put(p, EXTEND + v, 1, set | queries::only(v));
+    }
 }
 
-// One more operator that is no join: a scan so many times of a hundred, else an extend.
-fn random_result(p: &mut [u32], q: &[u32], scans: usize, seed: &mut u64) {
-    if depth(p) == 0 {
-        random_scan(p, q, seed);
-        return;
+// The neighbours of v, where a set has it.
+fn neighbours_in(q: &Query, set: usize, v: usize) -> usize {
+    if set & queries::only(v) == 0 {
+        return 0;
     }
-    if chance(seed, scans) {
-        random_scan(p, q, seed);
-        return;
-    }
-    random_extend(p, q, seed);
+    queries::neighbours(q, v)
 }
 
-// One more operator: mostly a join where it may be.
-fn random_operator(p: &mut [u32], q: &[u32], scans: usize, seed: &mut u64) {
-    if !may_join(p, q) {
-        random_result(p, q, scans, seed);
+// The neighbours of a set's vertices.
+fn neighbours_of_set(q: &Query, set: usize) -> usize {
+    let mut found = 0;
+    for v in 0..8usize {
+        found = found | neighbours_in(q, set, v);
+    }
+    found
+}
+
+// Two results may be joined: they share a vertex, each has one that the other lacks, and no edge leads from these to those.
+fn may_join(q: &Query, a: usize, b: usize) -> bool {
+    let shared = a & b;
+    let lost = neighbours_of_set(q, a ^ shared) & (b ^ shared);
+    (shared != 0) & (shared != a) & (shared != b) & (lost == 0)
+}
+
+// One more operator: mostly a join where it may be, or where any may be; a scan so many times of a hundred, else an extend.
+fn step(p: &mut Plan, q: &Query, any: bool, scans: usize, seed: &mut u64) {
+    let a = set_under(p, 0);
+    let b = set_under(p, 1);
+    let joins = chance(seed, 80);
+    let scans = chance(seed, scans);
+    if joins & (1 < p[DEPTH]) & (any | may_join(q, a, b)) {
+        put(p, JOIN, 2, a | b);
         return;
     }
-    if chance(seed, 20) {
-        random_result(p, q, scans, seed);
+    if scans | (p[DEPTH] == 0) {
+        scan(p, q, seed);
         return;
     }
-    then(p, q, JOIN, 0);
+    extend(p, q, seed);
 }
 
 // The plan ends with one result that covers every vertex.
-fn finished(p: &[u32], q: &[u32]) -> bool {
-    if depth(p) != 1 {
-        return false;
-    }
-    set_under(p, 0) == queries::all(q)
+fn is_finished(p: &Plan, q: &Query) -> bool {
+    (p[DEPTH] == 1) & (add(p[SETS], 1) == 1usize << (q[queries::VERTICES] % 16))
 }
 
-// Random operators until the plan is finished, or is too long: answers whether it is finished.
-fn attempt(p: &mut [u32], q: &[u32], scans: usize, seed: &mut u64) -> bool {
-    start(p);
-    let mut i = 0usize;
-    while i < 20 {
-        random_operator(p, q, scans, seed);
-        if finished(p, q) {
-            return true;
+// Random operators until the plan is finished. It starts again after as many steps as a plan has operators at most, and in the
+// second half a plan has one scan.
+fn make(p: &mut Plan, q: &Query, any: bool, seed: &mut u64) {
+    let scans = add(10, below(seed, 60));
+    for i in 0..1000usize {
+        if i % MAX_OPERATORS == 0 {
+            *p = [0; WORDS];
         }
-        i += 1;
-    }
-    false
-}
-
-// A random accepted plan; one of a scan and extends where no other is found.
-pub fn random(p: &mut [u32], q: &[u32], seed: &mut u64) {
-    let scans = below(seed, 60);
-    let mut i = 0usize;
-    while i < 20 {
-        if attempt(p, q, scans, seed) {
+        step(p, q, any, if i < 500 { scans } else { 0 }, seed);
+        if is_finished(p, q) {
             return;
         }
-        i += 1;
     }
-    attempt(p, q, 0, seed);
 }
 
-pub fn operand_bits(kind: usize) -> usize {
-    if kind == SCAN {
-        return 5;
+fn write_operator(file: &mut [u8], at: usize, operator: usize) -> usize {
+    let operand = put_field(file, at, 2, operator / 32);
+    match operator / 32 {
+        0 => put_field(file, operand, 5, operator),
+        1 => put_field(file, operand, 3, operator),
+        _ => operand,
     }
-    if kind == EXTEND {
-        return 3;
-    }
-    0
 }
 
-// How many operands a kind of operator has in a query: its edges, its vertices, or the one that a join does not write.
-pub fn operands(q: &[u32], kind: usize) -> usize {
-    if kind == SCAN {
-        return queries::edges(q);
+// Writes a random plan over zeros from a bit position on, and answers the bit position after it. Unless any join may be in it, the
+// plan is accepted.
+pub fn random(q: &Query, file: &mut [u8], from: usize, any: bool, seed: &mut u64) -> usize {
+    let mut p = [0usize; WORDS];
+    make(&mut p, q, any, seed);
+    let mut at = put_field(file, from, 5, p[COUNT]);
+    for i in 0..p[COUNT] % 32 {
+        at = write_operator(file, at, p[OPERATORS + i % 32]);
     }
-    if kind == EXTEND {
-        return queries::vertices(q);
-    }
-    1
-}
-
-fn extend_rule(p: &[u32], q: &[u32], v: usize) -> u32 {
-    if depth(p) < 1 {
-        return 15;
-    }
-    if queries::extends(q, v, set_under(p, 0)) {
-        return 0;
-    }
-    16
-}
-
-fn join_rule(p: &[u32], q: &[u32]) -> u32 {
-    if depth(p) < 2 {
-        return 15;
-    }
-    if queries::joins(q, set_under(p, 1), set_under(p, 0)) {
-        return 0;
-    }
-    17
-}
-
-// 15, 16 or 17 where operator i breaks a rule over the pile, else 0.
-pub fn rule(p: &[u32], q: &[u32], i: usize) -> u32 {
-    if kind(p, i) == SCAN {
-        return 0;
-    }
-    if kind(p, i) == EXTEND {
-        return extend_rule(p, q, operand(p, i));
-    }
-    join_rule(p, q)
-}
-
-// The pile after operator i.
-pub fn apply(p: &mut [u32], q: &[u32], i: usize) {
-    let x = operand(p, i);
-    if kind(p, i) == SCAN {
-        put_set(p, 0, ends(q, x));
-        return;
-    }
-    let top = set_under(p, 0);
-    if kind(p, i) == EXTEND {
-        put_set(p, 1, top | power(x));
-        return;
-    }
-    let under = set_under(p, 1);
-    put_set(p, 2, top | under);
-}
-
-// Writes the plan's file and answers its length in bytes.
-pub fn write(p: &[u32], file: &mut [u8]) -> usize {
-    bits::clear(file, 64);
-    let mut at = bits::put_field(file, 0, 5, count(p));
-    let mut i = 0;
-    let end = count(p);
-    while i < end {
-        at = bits::put_field(file, at, 2, kind(p, i));
-        at = bits::put_field(file, at, operand_bits(kind(p, i)), operand(p, i));
-        i += 1;
-    }
-    bits::bytes_for(at)
+    at
 }

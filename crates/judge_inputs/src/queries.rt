@@ -1,353 +1,190 @@
-// Queries: one slice with n, m, the vertices' labels, the edges (from, to, label's index) in order, and the same edges as a table
-// of whether each is there.
+// A query: one array with the words named below, for each vertex the set of its neighbours, the edges in the file's order, and a
+// cell for each from, to and label, which is 1 where the edge is there. An edge is the number of its cell.
+use crate::bits::add;
+use crate::bits::bytes_for;
+use crate::bits::put_field;
 use crate::graphs;
-use judge_words::bits;
-use judge_words::numbers::add;
-use judge_words::numbers::fill;
-use judge_words::numbers::member;
-use judge_words::numbers::power;
-use judge_words::numbers::put;
-use judge_words::numbers::sub;
-use judge_words::numbers::times;
-use judge_words::numbers::word;
-use judge_words::random::below;
-use judge_words::random::chance;
+use crate::graphs::Graph;
+use crate::random::below;
+use crate::random::chance;
 
-pub const WORDS: usize = 352;
+pub type Query = [usize; WORDS];
 
-pub const MAX_VERTICES: usize = 8;
+pub const WORDS: usize = 304;
 
-pub const MAX_EDGES: usize = 24;
+pub const VERTICES: usize = 0;
 
-const VERTICES: usize = 0;
+pub const EDGES: usize = 1;
 
-const EDGES: usize = 1;
-
+// Two bits of this word for each vertex choose its label.
 const LABELS: usize = 2;
 
-const LISTED: usize = 10;
+// How many vertices have an edge yet, and how many edges are listed yet.
+const JOINED: usize = 3;
 
-const TABLE: usize = 96;
+const LISTED: usize = 4;
 
-pub fn vertices(q: &[u32]) -> usize {
-    word(q, VERTICES)
+const NEIGHBOURS: usize = 8;
+
+const LIST: usize = 16;
+
+const CELLS: usize = 48;
+
+const CELL_COUNT: usize = 256;
+
+const MAX_EDGES: usize = 24;
+
+// The set of one vertex.
+pub fn only(v: usize) -> usize {
+    1usize << (v % 8)
 }
 
-pub fn edges(q: &[u32]) -> usize {
-    word(q, EDGES)
+pub fn source(edge: usize) -> usize {
+    edge / 32 % 8
 }
 
-pub fn label(q: &[u32], v: usize) -> usize {
-    word(q, LABELS + v % 8)
-}
-
-pub fn source(q: &[u32], i: usize) -> usize {
-    word(q, LISTED + i % 24 * 3)
-}
-
-pub fn target(q: &[u32], i: usize) -> usize {
-    word(q, LISTED + i % 24 * 3 + 1)
+pub fn target(edge: usize) -> usize {
+    edge / 4 % 8
 }
 
 // The index of the edge's label.
-pub fn label_index(q: &[u32], i: usize) -> usize {
-    word(q, LISTED + i % 24 * 3 + 2)
+pub fn label_index(edge: usize) -> usize {
+    edge % 4
 }
 
-// The set of the vertices.
-pub fn all(q: &[u32]) -> usize {
-    sub(power(vertices(q)), 1)
+// The edge of an index.
+pub fn edge(q: &Query, i: usize) -> usize {
+    q[LIST + i % 32]
 }
 
-// The edge has both ends in a set.
-pub fn inside(q: &[u32], i: usize, set: usize) -> bool {
-    if member(set, source(q, i)) == 0 {
-        return false;
-    }
-    member(set, target(q, i)) == 1
+pub fn label(q: &Query, v: usize) -> usize {
+    graphs::vertex_label(q[LABELS], v)
 }
 
-// The edge's other end, where v is one of its ends and the other is in a set; else 8.
-pub fn other_end(q: &[u32], i: usize, v: usize, set: usize) -> usize {
-    let s = source(q, i);
-    let t = target(q, i);
-    if s == v {
-        if member(set, t) == 1 {
-            return t;
-        }
-        return MAX_VERTICES;
-    }
-    if t == v {
-        if member(set, s) == 1 {
-            return s;
-        }
-    }
-    MAX_VERTICES
+// The vertices that an edge joins to v, in either direction, as a set.
+pub fn neighbours(q: &Query, v: usize) -> usize {
+    q[NEIGHBOURS + v % 8]
 }
 
-// v is outside a set and has an edge to it.
-pub fn extends(q: &[u32], v: usize, set: usize) -> bool {
-    if member(set, v) == 1 {
-        return false;
-    }
-    let mut i = 0;
-    let end = edges(q);
-    while i < end {
-        if other_end(q, i, v, set) < MAX_VERTICES {
-            return true;
-        }
-        i += 1;
-    }
-    false
+// A query of n vertices without edges.
+pub fn start(q: &mut Query, n: usize) {
+    *q = [0; WORDS];
+    q[VERTICES] = n;
 }
 
-// The set of v alone where it has an edge to a set, else the empty set.
-pub fn reached(q: &[u32], v: usize, set: usize) -> usize {
-    if extends(q, v, set) {
-        return power(v);
-    }
-    0
-}
-
-// Every edge within the union of two sets lies within one of them.
-fn keeps_edges(q: &[u32], a: usize, b: usize) -> bool {
-    let mut i = 0;
-    let end = edges(q);
-    while i < end {
-        if inside(q, i, a | b) {
-            if !inside(q, i, a) {
-                if !inside(q, i, b) {
-                    return false;
-                }
-            }
-        }
-        i += 1;
-    }
-    true
-}
-
-// Two sets may be joined.
-pub fn joins(q: &[u32], a: usize, b: usize) -> bool {
-    if a & b == 0 {
-        return false;
-    }
-    if a | b == a {
-        return false;
-    }
-    if a | b == b {
-        return false;
-    }
-    keeps_edges(q, a, b)
-}
-
-// A query of n vertices without labels and edges.
-pub fn start(q: &mut [u32], n: usize) {
-    fill(q, 0, WORDS, 0);
-    put(q, VERTICES, n);
-}
-
-pub fn put_label(q: &mut [u32], v: usize, label: usize) {
-    put(q, LABELS + v % 8, label);
-}
-
-// Puts an edge into the table.
-pub fn put_edge(q: &mut [u32], from: usize, to: usize, l: usize) {
-    put(q, TABLE + from % 8 * 32 + to % 8 * 4 + l % 4, 1);
-}
-
-// Lists an edge without its label.
-pub fn put_listed(q: &mut [u32], from: usize, to: usize) {
-    let m = edges(q);
-    let at = LISTED + m % 24 * 3;
-    put(q, at, from);
-    put(q, at + 1, to);
-    put(q, EDGES, add(m, 1));
-}
-
-// Lists the edge of a table's place, if it is there and the list has room.
-fn list_edge(q: &mut [u32], at: usize) {
-    let m = edges(q);
-    if word(q, add(TABLE, at)) == 0 {
+// Adds an edge, unless it joins a vertex to itself, leads outside the query, is there, or is one too many.
+pub fn put_edge(q: &mut Query, edge: usize) {
+    let s = source(edge);
+    let t = target(edge);
+    let cell = CELLS + edge % CELL_COUNT;
+    if (s == t) | (q[VERTICES] <= s) | (q[VERTICES] <= t) {
         return;
     }
-    if MAX_EDGES <= m {
+    if (q[cell] == 1) | (MAX_EDGES <= q[EDGES]) {
         return;
     }
-    let to = add(LISTED, times(m, 3));
-    put(q, to, at / 32);
-    put(q, add(to, 1), at / 4 % 8);
-    put(q, add(to, 2), at % 4);
-    put(q, EDGES, add(m, 1));
-}
-
-// Lists the table's edges, ascending.
-pub fn finish(q: &mut [u32]) {
-    put(q, EDGES, 0);
-    let mut at = 0;
-    while at < 256 {
-        list_edge(q, at);
-        at += 1;
-    }
-}
-
-fn random_label_index(seed: &mut u64) -> usize {
-    let most = below(seed, 3);
-    below(seed, add(most, 1))
+    q[cell] = 1;
+    q[EDGES] = add(q[EDGES], 1);
+    q[NEIGHBOURS + s % 8] = neighbours(q, s) | only(t);
+    q[NEIGHBOURS + t % 8] = neighbours(q, t) | only(s);
 }
 
 // An edge between two vertices, in either direction.
-fn random_edge(q: &mut [u32], a: usize, b: usize, seed: &mut u64) {
-    let l = random_label_index(seed);
-    if a == b {
-        return;
-    }
+fn random_edge(a: usize, b: usize, seed: &mut u64) -> usize {
+    let most = below(seed, 3);
+    let l = below(seed, add(most, 1)) % 4;
     if chance(seed, 50) {
-        put_edge(q, a, b, l);
-        return;
+        return a % 8 * 32 + b % 8 * 4 + l;
     }
-    put_edge(q, b, a, l);
+    b % 8 * 32 + a % 8 * 4 + l
 }
 
-// An edge between two vertices that the graph has between their places, if a few tries find one.
-fn edge_of_graph(
-    q: &mut [u32],
-    g: &[u32],
-    row: &[u32],
-    a: usize,
-    b: usize,
-    seed: &mut u64,
-) -> bool {
-    let l = random_label_index(seed);
-    if a == b {
-        return false;
-    }
-    if graphs::has(g, l, word(row, a), word(row, b)) == 1 {
-        put_edge(q, a, b, l);
-        return true;
-    }
-    if graphs::has(g, l, word(row, b), word(row, a)) == 1 {
-        put_edge(q, b, a, l);
+// Adds an edge if it may be any, or else if the graph has it between the places of its ends; answers whether it did.
+fn try_edge(q: &mut Query, g: &Graph, row: &[usize; 8], edge: usize, any: bool) -> bool {
+    let s = row[source(edge) % 8];
+    let t = row[target(edge) % 8];
+    if any | graphs::has(g, s, label_index(edge), t) {
+        put_edge(q, edge);
         return true;
     }
     false
 }
 
-// Gives v a random place, and an edge of the graph to a vertex before it; answers whether it has found one.
-fn place_vertex(q: &mut [u32], g: &[u32], row: &mut [u32], v: usize, seed: &mut u64) -> bool {
-    put(row, v, below(seed, graphs::places(g)));
-    let u = below(seed, v);
-    edge_of_graph(q, g, row, u, v, seed)
+// Gives the next vertex a place, and an edge to one before it if the edge will do.
+fn join_vertex(q: &mut Query, g: &Graph, row: &mut [usize; 8], any: bool, seed: &mut u64) {
+    let v = q[JOINED];
+    row[v % 8] = below(seed, g[graphs::PLACES]);
+    let edge = random_edge(below(seed, v), v, seed);
+    if try_edge(q, g, row, edge, any) {
+        q[JOINED] = add(v, 1);
+    }
 }
 
-// Joins v to a vertex before it: by an edge of the graph in so many tries, else by any.
-fn join_vertex(q: &mut [u32], g: &[u32], row: &mut [u32], v: usize, tries: usize, seed: &mut u64) {
-    let mut i = 0;
-    while i < tries {
-        if place_vertex(q, g, row, v, seed) {
-            return;
+// Joins all vertices, by an edge that may be any in every sixteenth step at least; then adds edges, so many in a hundred steps.
+fn join_vertices(q: &mut Query, g: &Graph, any: bool, more: usize, seed: &mut u64) {
+    let n = q[VERTICES];
+    let mut row = [0usize; 8];
+    row[0] = below(seed, g[graphs::PLACES]);
+    q[JOINED] = 1;
+    for i in 0..128usize {
+        if q[JOINED] < n {
+            join_vertex(q, g, &mut row, any | (i % 16 == 15), seed);
+        } else if chance(seed, more) {
+            let edge = random_edge(below(seed, n), below(seed, n), seed);
+            try_edge(q, g, &row, edge, any);
         }
-        i += 1;
-    }
-    random_edge(q, v, below(seed, v), seed);
-}
-
-// Joins every vertex to one before it.
-fn random_tree(q: &mut [u32], g: &[u32], row: &mut [u32], n: usize, tries: usize, seed: &mut u64) {
-    put(row, 0, below(seed, graphs::places(g)));
-    let mut v = 1;
-    while v < n {
-        join_vertex(q, g, row, v, tries, seed);
-        v += 1;
-    }
-}
-
-// One more edge: of the graph, or any where `tries` is 0.
-fn one_more(q: &mut [u32], g: &[u32], row: &[u32], n: usize, tries: usize, seed: &mut u64) {
-    let a = below(seed, n);
-    let b = below(seed, n);
-    if tries == 0 {
-        random_edge(q, a, b, seed);
-        return;
-    }
-    edge_of_graph(q, g, row, a, b, seed);
-}
-
-fn random_more(q: &mut [u32], g: &[u32], row: &[u32], n: usize, tries: usize, seed: &mut u64) {
-    let most = add(1, below(seed, 16));
-    let count = below(seed, most);
-    let mut i = 0;
-    while i < count {
-        one_more(q, g, row, n, tries, seed);
-        i += 1;
     }
 }
 
 // Labels on a vertex or two of some queries.
-fn random_labels(q: &mut [u32], n: usize, seed: &mut u64) {
-    if chance(seed, 70) {
-        return;
-    }
-    put_label(q, below(seed, n), 5);
-    if chance(seed, 50) {
-        put_label(q, below(seed, n), 700);
-    }
+fn random_labels(seed: &mut u64) -> usize {
+    let one = 1usize << (below(seed, 8) % 8 * 2);
+    let other = 2usize << (below(seed, 8) % 8 * 2);
+    let words = [one, one | other, 0, 0, 0, 0];
+    words[below(seed, 6) % 6]
 }
 
-// A random connected query; three of four occur in the graph if its edges allow. `row` takes the places of its vertices.
-pub fn random(q: &mut [u32], g: &[u32], row: &mut [u32], seed: &mut u64) {
-    let n = add(2, below(seed, 7));
-    let tries = times(below(seed, 4), 20);
-    start(q, n);
-    random_tree(q, g, row, n, tries, seed);
-    random_more(q, g, row, n, tries, seed);
-    random_labels(q, n, seed);
-    finish(q);
+// A random connected query of 2 to 8 vertices; three of four are made of edges of the graph.
+pub fn random(q: &mut Query, g: &Graph, seed: &mut u64) {
+    start(q, add(2, below(seed, 7)));
+    q[LABELS] = random_labels(seed);
+    let any = chance(seed, 25);
+    let more = below(seed, 20);
+    join_vertices(q, g, any, more, seed);
 }
 
-// A query of random edges, which may be none or leave it unconnected.
-pub fn scattered(q: &mut [u32], seed: &mut u64) {
-    let n = add(2, below(seed, 7));
-    let count = below(seed, 8);
-    start(q, n);
-    let mut i = 0;
-    while i < count {
-        let a = below(seed, n);
-        random_edge(q, a, below(seed, n), seed);
-        i += 1;
-    }
-    finish(q);
-}
-
-fn write_labels(q: &[u32], file: &mut [u8], from: usize) -> usize {
+fn write_labels(q: &Query, file: &mut [u8], from: usize) -> usize {
     let mut at = from;
-    let mut v = 0;
-    let end = vertices(q);
-    while v < end {
-        at = bits::put_field(file, at, 16, label(q, v));
-        v += 1;
+    for v in 0..q[VERTICES] % 16 {
+        at = put_field(file, at, 16, label(q, v));
     }
     at
 }
 
-fn write_edges(q: &[u32], file: &mut [u8], from: usize) -> usize {
+// Lists and writes the edge of a cell, if it is there.
+fn write_edge(q: &mut Query, cell: usize, file: &mut [u8], at: usize) -> usize {
+    if q[CELLS + cell % CELL_COUNT] == 0 {
+        return at;
+    }
+    q[LIST + q[LISTED] % 32] = cell;
+    q[LISTED] = add(q[LISTED], 1);
+    let to = put_field(file, at, 3, source(cell));
+    let label = put_field(file, to, 3, target(cell));
+    put_field(file, label, 8, graphs::edge_label(label_index(cell)))
+}
+
+fn write_edges(q: &mut Query, file: &mut [u8], from: usize) -> usize {
     let mut at = from;
-    let mut i = 0;
-    let end = edges(q);
-    while i < end {
-        at = bits::put_field(file, at, 3, source(q, i));
-        at = bits::put_field(file, at, 3, target(q, i));
-        at = bits::put_field(file, at, 8, graphs::edge_label(label_index(q, i)));
-        i += 1;
+    for cell in 0..CELL_COUNT {
+        at = write_edge(q, cell, file, at);
     }
     at
 }
 
-// Writes the query's file and answers its length in bytes.
-pub fn write(q: &[u32], file: &mut [u8]) -> usize {
-    bits::clear(file, 128);
-    let at = bits::put_field(file, 0, 4, vertices(q));
-    let labels = bits::put_field(file, at, 5, edges(q));
+// Lists the edges of a query that was just made, writes its file over zeros, and answers the file's length in bytes.
+pub fn write(q: &mut Query, file: &mut [u8]) -> usize {
+    let edges = put_field(file, 0, 4, q[VERTICES]);
+    let labels = put_field(file, edges, 5, q[EDGES]);
     let listed = write_labels(q, file, labels);
-    let end = write_edges(q, file, listed);
-    bits::bytes_for(end)
+    bytes_for(write_edges(q, file, listed))
 }

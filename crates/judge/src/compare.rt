@@ -1,0 +1,125 @@
+// The runs of a plan, against the matcher and against each other.
+use crate::runs;
+use crate::runs::Files;
+use crate::runs::LIST_WORDS;
+use crate::runs::Lent;
+use crate::runs::List;
+use crate::runs::Store;
+use crate::slices::same_words;
+use crate::tally;
+use crate::tally::Tally;
+use crate::ticks;
+use crate::ticks::Matches;
+use judge_inputs::bits::add;
+use judge_inputs::bits::sub;
+use judge_inputs::graphs::Graph;
+use run::RunAnswer;
+
+// Another run of a plan, which gives `refusal`, if that is not 0, or does as the first: the same rows in the same order, the same
+// counts, and a cost no higher, without the cache the same. Answers the run's refusal.
+fn judge_again(
+    store: &Store,
+    files: &Files,
+    with: Lent,
+    a: RunAnswer,
+    first: &List,
+    refusal: u32,
+    kind: usize,
+    tally: &mut Tally,
+) -> u32 {
+    let mut list = [runs::MARK; LIST_WORDS];
+    let b = runs::run(store, files, with, &mut list, tally);
+    let counts = (a.rows == b.rows) & (a.build == b.build) & (a.probe == b.probe);
+    let cost = (b.cost <= a.cost) & (with.cache | (a.cost == b.cost));
+    let same = (b.refusal == 0) & counts & cost & same_words(first, &list, with.list);
+    let refused = (b.refusal != 0) & (b.refusal == refusal);
+    let saved = (kind == tally::CACHE) & (b.cost < a.cost);
+    tally::judge(tally, kind, same | refused);
+    tally::count(tally, tally::SAVED, saved as u64);
+    b.refusal
+}
+
+// Lengths of scratch ever closer to the need: those below `short` give 20, and it grows by ever smaller steps until it serves.
+fn judge_scratch(
+    store: &Store,
+    files: &Files,
+    with: Lent,
+    a: RunAnswer,
+    first: &List,
+    tally: &mut Tally,
+) {
+    let mut w = with;
+    let mut short = 0;
+    for k in 0..14usize {
+        let step = 8192usize >> (k % 32);
+        w.scratch = sub(add(short, step), 1);
+        if judge_again(store, files, w, a, first, 20, tally::SCRATCH, tally) == 20 {
+            short = add(short, step);
+        }
+    }
+}
+
+// A list of just the rows' words serves as well; one a word shorter gives 21.
+fn judge_list(
+    store: &Store,
+    files: &Files,
+    with: Lent,
+    a: RunAnswer,
+    first: &List,
+    tally: &mut Tally,
+) {
+    let mut w = with;
+    judge_again(store, files, with, a, first, 0, tally::LIST, tally);
+    if 0 < with.list {
+        w.list = sub(with.list, 1);
+        let refusal = judge_again(store, files, w, a, first, 21, tally::LIST, tally);
+        tally::judge(tally, tally::LIST, refusal == 21);
+    }
+}
+
+// A plan of any joins after so many other plans: it gives 17, or lists every match all the same.
+pub fn judge_joins(
+    g: &Graph,
+    store: &Store,
+    files: &Files,
+    with: Lent,
+    matches: &mut Matches,
+    plans: usize,
+    tally: &mut Tally,
+) {
+    let mut list = [runs::MARK; LIST_WORDS];
+    let a = runs::run(store, files, with, &mut list, tally);
+    let matched = ticks::are_matches(g, matches, add(plans, 1), a.rows, with.width, &list);
+    let refused = (a.refusal == 17) | (a.refusal == 20);
+    tally::judge(tally, tally::JOINS, refused | ((a.refusal == 0) & matched));
+}
+
+// All runs of the last of so many plans of a query; answers whether they were judged, and not too large for the scratch.
+pub fn judge_plan(
+    g: &Graph,
+    store: &Store,
+    files: &Files,
+    with: Lent,
+    matches: &mut Matches,
+    plans: usize,
+    tally: &mut Tally,
+) -> bool {
+    let mut first = [runs::MARK; LIST_WORDS];
+    let mut w = with;
+    let a = runs::run(store, files, with, &mut first, tally);
+    if a.refusal == 20 {
+        return false;
+    }
+    let matched = ticks::are_matches(g, matches, plans, a.rows, with.width, &first);
+    tally::judge(tally, tally::MATCHED, matched & (a.refusal == 0));
+    tally::count(tally, tally::FILLED, (0 < a.rows) as u64);
+    tally::count(tally, tally::JOINED, ((0 < a.build) & (0 < a.probe)) as u64);
+    tally::count(tally, tally::ROWS, a.rows as u64);
+    w.cache = true;
+    judge_again(store, files, w, a, &first, 0, tally::CACHE, tally);
+    w.cache = plans == 1;
+    w.list = runs::row_words(a.rows, with.width);
+    judge_list(store, files, w, a, &first, tally);
+    judge_scratch(store, files, w, a, &first, tally);
+    true
+}

@@ -1,0 +1,106 @@
+// Damaged files and stores through the four operations.
+use crate::runs;
+use crate::runs::Files;
+use crate::runs::Lent;
+use crate::runs::PLAN;
+use crate::runs::Store;
+use crate::slices::part;
+use crate::tally;
+use crate::tally::DAMAGED;
+use crate::tally::Tally;
+use judge_inputs::bits::add;
+use judge_inputs::bits::flip;
+use judge_inputs::bits::sub;
+use judge_inputs::random::below;
+
+// What the operation below refuses, this one refuses with the same number; else it accepts, or refuses with one of its own.
+fn follows(refused: u32, refusal: u32, first: u32, last: u32) -> bool {
+    (refusal == refused) | ((refused == 0) & (first <= refusal) & (refusal <= last))
+}
+
+// Read query, Check plan and Run; answers Run's refusal.
+fn refusal_of(store: &Store, files: &Files, with: Lent, tally: &mut Tally) -> u32 {
+    let mut list = [runs::MARK; runs::LIST_WORDS];
+    let query = part(files, 0, with.query);
+    let q = query::read_query(query);
+    let c = plan::check_plan(query, part(files, PLAN, with.plan));
+    let a = runs::run(store, files, with, &mut list, tally);
+    let read = follows(0, q.refusal, 6, 11);
+    let checked = follows(q.refusal, c.refusal, 12, 18);
+    let ran = follows(c.refusal, a.refusal, 19, 21);
+    let no_query = (q.query.vertices == 0) & (q.query.edges == 0);
+    let zeros = ((q.refusal == 0) | no_query) & ((c.refusal == 0) | (c.operators == 0));
+    tally::judge(tally, DAMAGED, read & checked & ran);
+    tally::judge(tally, tally::REFUSED, zeros);
+    a.refusal
+}
+
+fn judge_refusal(store: &Store, files: &Files, with: Lent, refusal: u32, tally: &mut Tally) {
+    let given = refusal_of(store, files, with, tally);
+    tally::judge(tally, DAMAGED, given == refusal);
+}
+
+// Files a byte short and a byte long, and a store without its last word.
+fn judge_lengths(store: &Store, files: &Files, with: Lent, tally: &mut Tally) {
+    let mut w = with;
+    w.query = sub(with.query, 1);
+    judge_refusal(store, files, w, 6, tally);
+    w.query = add(with.query, 1);
+    judge_refusal(store, files, w, 7, tally);
+    w.query = with.query;
+    w.plan = sub(with.plan, 1);
+    judge_refusal(store, files, w, 12, tally);
+    w.plan = add(with.plan, 1);
+    judge_refusal(store, files, w, 13, tally);
+    w.plan = with.plan;
+    w.store = sub(with.store, 1);
+    judge_refusal(store, files, w, 19, tally);
+}
+
+// A bit of the files turned over.
+fn judge_bit(store: &Store, files: &mut Files, with: Lent, bit: usize, tally: &mut Tally) {
+    flip(files, bit, 1);
+    refusal_of(store, files, with, tally);
+    flip(files, bit, 1);
+}
+
+// A run whose files or store are damaged, with a few words of scratch and list.
+pub fn judge_run(
+    store: &mut Store,
+    files: &mut Files,
+    with: Lent,
+    seed: &mut u64,
+    tally: &mut Tally,
+) {
+    let mut w = with;
+    w.scratch = 256;
+    w.list = 256;
+    judge_lengths(store, files, w, tally);
+    judge_bit(store, files, w, below(seed, w.query % PLAN * 8), tally);
+    let plan = PLAN * 8 + below(seed, w.plan % PLAN * 8) % 512;
+    judge_bit(store, files, w, plan, tally);
+    let i = below(seed, w.store) % runs::STORE_WORDS;
+    let bit = 1u32 << (below(seed, 32) % 32);
+    store[i] = store[i] ^ bit;
+    refusal_of(store, files, w, tally);
+    store[i] = store[i] ^ bit;
+}
+
+// Load of a graph file a byte short, a byte long and with a bit turned over.
+pub fn judge_load(
+    file: &mut [u8],
+    bytes: usize,
+    store: &mut Store,
+    words: usize,
+    seed: &mut u64,
+    tally: &mut Tally,
+) {
+    let short = runs::load(file, sub(bytes, 1), store, words, tally);
+    tally::judge(tally, DAMAGED, short.refusal == 1);
+    let long = runs::load(file, add(bytes, 1), store, words, tally);
+    tally::judge(tally, DAMAGED, long.refusal == 2);
+    let bit = below(seed, bytes % 65536 * 8);
+    flip(file, bit, 1);
+    let flipped = runs::load(file, bytes, store, words, tally);
+    tally::judge(tally, DAMAGED, flipped.refusal < 6);
+}

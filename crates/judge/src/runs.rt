@@ -1,0 +1,136 @@
+// Load and Run over marked words, with what they leave there judged.
+use crate::slices::all_are;
+use crate::slices::least;
+use crate::slices::part;
+use crate::tally;
+use crate::tally::Tally;
+use judge_inputs::bits::add;
+use load::Loaded;
+use run::RunAnswer;
+
+// What stands in the words before, and how many words past those that are lent are looked at.
+pub const MARK: u32 = 3735928559;
+
+const MARGIN: usize = 8;
+
+pub const MAX_SCRATCH: usize = 16384;
+
+pub const STORE_WORDS: usize = 3072;
+
+pub const LIST_WORDS: usize = 16400;
+
+pub const FILE_BYTES: usize = 128;
+
+// Where the plan's file begins, after the query's.
+pub const PLAN: usize = 64;
+
+pub type Store = [u32; STORE_WORDS];
+
+pub type List = [u32; LIST_WORDS];
+
+pub type Files = [u8; FILE_BYTES];
+
+// What a run is lent: the words of the store, the bytes of the two files, the cache setting, the words of scratch and list. A row
+// has `width` words.
+pub struct Lent {
+    pub store: usize,
+    pub query: usize,
+    pub plan: usize,
+    pub cache: bool,
+    pub scratch: usize,
+    pub list: usize,
+    pub width: usize,
+}
+
+// The one call of Run.
+fn lend(
+    store: &[u32],
+    files: &[u8],
+    with: Lent,
+    scratch: &mut [u32],
+    list: &mut [u32],
+) -> RunAnswer {
+    let used = least(with.store, store.len());
+    let words = least(with.scratch, scratch.len());
+    let room = least(with.list, list.len());
+    let query = part(files, 0, with.query);
+    let plan = part(files, PLAN, with.plan);
+    run::run(
+        &store[0..used],
+        query,
+        plan,
+        with.cache,
+        &mut scratch[0..words],
+        &mut list[0..room],
+    )
+}
+
+// The words of so many rows.
+pub fn row_words(rows: usize, width: usize) -> usize {
+    let r = rows % 65536;
+    let words = [0, r, r * 2, r * 3, r * 4, r * 5, r * 6, r * 7, r * 8];
+    words[width % 9]
+}
+
+// The words from an index on are as before, also past those that are lent.
+fn is_marked(s: &[u32], from: usize, lent: usize) -> bool {
+    all_are(s, from, add(lent, MARGIN), MARK)
+}
+
+// Refused, every other number is 0.
+fn judge_answer(a: RunAnswer, tally: &mut Tally) {
+    let zeros = (a.rows == 0) & (a.cost == 0) & (a.build == 0) & (a.probe == 0);
+    tally::count_refusal(tally, a.refusal);
+    tally::judge(tally, tally::REFUSED, (a.refusal == 0) | zeros);
+}
+
+// A run over marked words of scratch and list. It clears the scratch, and touches no word of the list past the last row, and none
+// past what it is lent.
+pub fn run(
+    store: &Store,
+    files: &Files,
+    with: Lent,
+    list: &mut List,
+    tally: &mut Tally,
+) -> RunAnswer {
+    let mut scratch = [MARK; MAX_SCRATCH + MARGIN];
+    let a = lend(store, files, with, &mut scratch, list);
+    let rows = row_words(a.rows, with.width);
+    let words = with.scratch;
+    let untouched = is_marked(&scratch, words, words) & is_marked(list, rows, with.list);
+    tally::judge(tally, tally::CLEARED, all_are(&scratch, 0, words, 0));
+    tally::judge(tally, tally::UNTOUCHED, untouched);
+    judge_answer(a, tally);
+    a
+}
+
+// The one call of Load.
+fn lend_store(file: &[u8], bytes: usize, store: &mut [u32], words: usize) -> Loaded {
+    let room = least(words, store.len());
+    load::load(part(file, 0, bytes), &mut store[0..room])
+}
+
+// The words of the store of N vertices and M edges.
+pub fn store_words(n: usize, m: usize) -> usize {
+    n % 65536 * 3 + m % 1048576 * 2 + 4
+}
+
+// Load of a file's first bytes to so many marked words. It touches none past the used ones, and none at all where it is refused.
+pub fn load(
+    file: &[u8],
+    bytes: usize,
+    store: &mut Store,
+    words: usize,
+    tally: &mut Tally,
+) -> Loaded {
+    *store = [MARK; STORE_WORDS];
+    let a = lend_store(file, bytes, store, words);
+    let accepted = a.refusal == 0;
+    let zeros = (a.vertices == 0) & (a.edges == 0);
+    let counted = store_words(a.vertices, a.edges);
+    let used = if accepted { counted } else { 0 };
+    tally::count_refusal(tally, a.refusal);
+    tally::judge(tally, tally::UNTOUCHED, is_marked(store, used, words));
+    tally::judge(tally, tally::REFUSED, accepted | zeros);
+    a
+}
