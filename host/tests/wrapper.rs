@@ -4,29 +4,9 @@ mod judge;
 use judge::graph::Graph;
 use judge::plan::{self, Operator};
 use judge::query::Query;
+use judge::worked::{diamond, g, graph, k, triangle};
 use trace::{Buffers, Cache, Refusal, Store};
 use Operator::{Extend, Join, Scan};
-
-fn graph(n: usize, pairs: &[(u16, u16)]) -> Graph {
-    Graph::new(vec![0; n], pairs.iter().map(|&(s, t)| (s, 1, t)).collect())
-}
-
-/// The graph G, the triangle Q, the diamond X and the graph K of the document.
-fn g() -> Graph {
-    graph(4, &[(0, 1), (0, 2), (1, 2), (1, 3), (2, 3)])
-}
-
-fn k() -> Graph {
-    graph(5, &[(0, 2), (0, 3), (1, 2), (1, 3), (2, 3), (2, 4), (3, 4)])
-}
-
-fn triangle() -> Query {
-    Query::plain(3, &[(0, 1), (0, 2), (1, 2)])
-}
-
-fn diamond() -> Query {
-    Query::plain(4, &[(0, 1), (0, 2), (1, 2), (1, 3), (2, 3)])
-}
 
 /// Rows, cost, build rows, probe rows.
 type Answer = (Vec<Vec<u32>>, u64, u64, u64);

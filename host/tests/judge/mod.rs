@@ -7,6 +7,8 @@ pub mod calls;
 pub mod graph;
 pub mod matcher;
 pub mod plan;
+pub mod program;
 pub mod query;
 pub mod random;
 pub mod rules;
+pub mod worked;

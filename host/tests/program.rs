@@ -1,0 +1,374 @@
+//! The program `trace`: all that it prints, on the examples, at its bounds, and for every refusal that it can give.
+mod judge;
+
+use judge::bits::pack;
+use judge::graph::{Edge, Graph};
+use judge::plan::{self, Operator};
+use judge::program::{answer, printed, run, run_places, run_reading, unbounded, Files, Place, FILES, MAX_BYTES};
+use judge::query::{Query, QueryEdge};
+use judge::random::each;
+use judge::worked::{diamond, g, graph, k, triangle};
+use std::collections::BTreeSet;
+use std::path::Path;
+use Operator::{Extend, Join, Scan, Unknown};
+
+const WORKED: &str = "matches 2 cost 13 build 0 probe 0\n0 1 2\n1 2 3\n";
+
+/// G, Q and P.
+fn worked() -> Files {
+    files(&g(), &triangle(), &[Scan(0), Extend(2)])
+}
+
+fn files(graph: &Graph, query: &Query, operators: &[Operator]) -> Files {
+    [graph.file(), query.file(), plan::file(operators)]
+}
+
+/// A file with zeros to this length.
+fn stretched(file: &[u8], length: usize) -> Vec<u8> {
+    let mut file = file.to_vec();
+    file.resize(length, 0);
+    file
+}
+
+#[test]
+fn the_examples() {
+    let examples = Path::new(concat!(env!("CARGO_MANIFEST_DIR"), "/../examples"));
+    let mut count = 0;
+    let entries = std::fs::read_dir(examples).unwrap().map(|entry| entry.unwrap().path());
+    for folder in entries.filter(|path| path.is_dir()) {
+        let read = |name: &str| std::fs::read(folder.join(name)).unwrap_or_else(|e| panic!("{folder:?}, {name}: {e}"));
+        let files = FILES.map(&read);
+        let expected = String::from_utf8(read("expected.txt")).unwrap();
+        assert_eq!(run(&files), expected, "{folder:?}");
+        assert_eq!(printed(&files), expected, "{folder:?}, by the judge");
+        count += 1;
+    }
+    assert!(count >= 4, "{count} examples");
+}
+
+/// The document's cases, with the cache on, and fields of one digit and of four, rows of two columns and of eight.
+#[test]
+fn the_worked_cases() {
+    assert_eq!(run(&worked()), WORKED);
+    let path = |n: usize| Query::plain(n, &(1..n).map(|v| (v - 1, v)).collect::<Vec<_>>());
+    let deep = [Scan(2), Extend(0), Extend(3)];
+    let bushy = [Scan(2), Extend(0), Scan(2), Extend(3), Join];
+    let chain = [Scan(0), Extend(2), Extend(3), Extend(4), Extend(5), Extend(6), Extend(7)];
+    let two = [Scan(0), Extend(2)];
+    let cases: [(Files, &str); 9] = [
+        (files(&g(), &triangle(), &[Scan(2), Extend(0)]), WORKED),
+        (files(&g(), &triangle(), &[Scan(1), Extend(1)]), "matches 2 cost 18 build 0 probe 0\n0 1 2\n1 2 3\n"),
+        (files(&g(), &diamond(), &deep), "matches 1 cost 17 build 0 probe 0\n0 1 2 3\n"),
+        (files(&g(), &diamond(), &bushy), "matches 1 cost 26 build 2 probe 2\n0 1 2 3\n"),
+        (files(&k(), &diamond(), &deep), "matches 2 cost 28 build 0 probe 0\n0 2 3 4\n1 2 3 4\n"),
+        (files(&graph(1, &[(0, 0)]), &triangle(), &two), "matches 1 cost 2 build 0 probe 0\n0 0 0\n"),
+        (files(&graph(0, &[]), &triangle(), &two), "matches 0 cost 0 build 0 probe 0\n"),
+        (files(&graph(1, &[(0, 0)]), &path(8), &chain), "matches 1 cost 6 build 0 probe 0\n0 0 0 0 0 0 0 0\n"),
+        (
+            files(&graph(1_363, &[(1_362, 1_000)]), &path(2), &[Scan(0)]),
+            "matches 1 cost 0 build 0 probe 0\n1362 1000\n",
+        ),
+    ];
+    for (files, text) in cases {
+        assert_eq!(run(&files), text);
+    }
+}
+
+#[derive(Clone, Copy, Debug, PartialEq)]
+enum Way {
+    Good,
+    Missing,
+    Folder,
+    Longest,
+    Long,
+}
+
+/// Each file is as it should be, missing, a folder, of 8,192 bytes or of 8,193, in all 125 ways: the first long one is named and
+/// nothing else is said; else the graph's refusal comes before the query's, and that before the plan's.
+#[test]
+fn every_file_missing_a_folder_or_at_its_longest() {
+    use Way::{Folder, Good, Long, Longest, Missing};
+    let good = worked();
+    for i in 0..125 {
+        let ways = [i / 25, i / 5 % 5, i % 5].map(|way| [Good, Missing, Folder, Longest, Long][way]);
+        let place = |at: usize| match ways[at] {
+            Good => Place::File(good[at].clone()),
+            Missing => Place::Missing,
+            Folder => Place::Folder,
+            Longest => Place::File(stretched(&good[at], MAX_BYTES)),
+            Long => Place::File(stretched(&good[at], MAX_BYTES + 1)),
+        };
+        let refusal = |at: usize| match ways[at] {
+            Good | Long => None,
+            Missing | Folder => Some([1, 6, 12][at]),
+            Longest => Some([2, 7, 13][at]),
+        };
+        let expected = match (ways.iter().position(|&way| way == Long), (0..3).find_map(refusal)) {
+            (Some(at), _) => format!("long {}\n", FILES[at]),
+            (None, Some(refusal)) => format!("refused {refusal}\n"),
+            (None, None) => WORKED.to_string(),
+        };
+        assert_eq!(run_places(&[0, 1, 2].map(place)), expected, "{ways:?}");
+    }
+}
+
+/// Names that can't be opened, since they are links to nothing or to themselves, and files of no bytes and of bytes without end.
+#[test]
+fn links() {
+    for (at, refusal) in [(0, 1), (1, 6), (2, 12)] {
+        let link = |target: &'static str| {
+            let mut places = worked().map(Place::File);
+            places[at] = Place::Link(target);
+            run_places(&places)
+        };
+        assert_eq!(link("nothing"), format!("refused {refusal}\n"), "{}", FILES[at]);
+        assert_eq!(link(FILES[at]), format!("refused {refusal}\n"), "{}", FILES[at]);
+        assert_eq!(link("/dev/null"), format!("refused {refusal}\n"), "{}", FILES[at]);
+        assert_eq!(link("/dev/zero"), format!("long {}\n", FILES[at]));
+    }
+}
+
+/// A graph of so many vertices and edges: from each vertex at most five edges, of labels 1 to 5.
+fn sized(n: u16, m: u16) -> Graph {
+    assert!(m <= 5 * n);
+    let edges = (0..m).map(|i| (i / 5, 1 + (i % 5) as u8, (i * 7) % n)).collect();
+    Graph { labels: vec![0; n.into()], edges }
+}
+
+/// The longest file, and the largest store: 3N + 2M + 4 words.
+#[test]
+fn the_largest_graphs() {
+    let query = Query::new(vec![0; 2], vec![(0, 1, 5)]);
+    for (n, m, bytes, words, rows) in [
+        (371, 1_489, 8_192, 4_095, Some(297)),
+        (376, 1_487, 8_192, 4_106, None),
+        (372, 1_488, 8_189, 4_096, Some(297)),
+        (373, 1_487, 8_186, 4_097, None),
+        (1_364, 0, 2_733, 4_096, Some(0)),
+        (1_365, 0, 2_735, 4_099, None),
+    ] {
+        let graph = sized(n, m);
+        assert_eq!((graph.file().len(), graph.store_size()), (bytes, words));
+        let files = files(&graph, &query, &[Scan(0)]);
+        let text = run(&files);
+        match rows {
+            Some(rows) => assert!(text.starts_with(&format!("matches {rows} cost 0 build 0 probe 0\n")), "{text}"),
+            None => assert_eq!(text, "refused 5\n"),
+        }
+        assert_eq!(text, printed(&files), "{n} vertices, {m} edges");
+    }
+}
+
+/// A refusal, and files that get it.
+type Refused = (u32, Files);
+
+/// Files of which every cut is too short, and a further byte or a fill bit too much.
+fn cut_and_stretched(at: usize, fill: u32, short: u32, long: u32) -> Vec<Refused> {
+    let file = &worked()[at];
+    let mut cases: Vec<(u32, Vec<u8>)> = (0..file.len()).map(|length| (short, file[..length].to_vec())).collect();
+    cases.push((long, stretched(file, file.len() + 1)));
+    for bit in 0..fill {
+        let mut file = file.clone();
+        *file.last_mut().unwrap() |= 1 << bit;
+        cases.push((long, file));
+    }
+    cases.into_iter().map(|(refusal, file)| (refusal, with(at, file))).collect()
+}
+
+/// G, Q and P, with another file in place of one.
+fn with(at: usize, file: Vec<u8>) -> Files {
+    let mut files = worked();
+    files[at] = file;
+    files
+}
+
+fn of_load() -> Vec<Refused> {
+    let file = |edges: &[Edge]| Graph { labels: vec![0; 4], edges: edges.to_vec() }.file();
+    let mut late = sized(373, 1_487);
+    late.edges[1_486].1 = 0;
+    let mut cases = cut_and_stretched(0, 4, 1, 2);
+    for (refusal, file) in [
+        (1, vec![0, 1, 0, 0, 0]),
+        (1, vec![255; MAX_BYTES]),
+        (3, file(&[(0, 1, 1), (4, 1, 0)])),
+        (3, file(&[(0, 1, 4)])),
+        (3, file(&[(0, 1, 65_535)])),
+        (3, file(&[(0, 0, 1)])),
+        (3, file(&[(0, 1, 4), (0, 1, 1)])),
+        (3, late.file()),
+        (4, file(&[(0, 1, 1), (0, 1, 1)])),
+        (4, file(&[(0, 1, 2), (0, 1, 1)])),
+        (4, file(&[(0, 2, 1), (0, 1, 2)])),
+        (4, file(&[(1, 1, 1), (0, 2, 2)])),
+        (4, file(&[(0, 1, 2), (0, 1, 1), (0, 1, 4)])),
+        (5, sized(373, 1_487).file()),
+    ] {
+        cases.push((refusal, with(0, file)));
+    }
+    cases
+}
+
+fn of_read_query() -> Vec<Refused> {
+    let file = |n: usize, edges: &[QueryEdge]| Query { labels: vec![0; n], edges: edges.to_vec() }.file();
+    let all: Vec<QueryEdge> = (0..5).flat_map(|a| (0..5).map(move |b| (a, b + usize::from(a <= b), 1))).collect();
+    let mut cases = cut_and_stretched(1, 5, 6, 7);
+    for (refusal, file) in [
+        (8, pack([(0, 4), (1, 5)])),
+        (8, pack([(1, 4), (1, 5)])),
+        (8, pack([(2, 4), (0, 5)])),
+        (8, file(1, &[(0, 1, 1)])),
+        (8, file(9, &[(0, 1, 1)])),
+        (8, file(15, &[(0, 1, 1)])),
+        (8, file(6, &[])),
+        (8, file(6, &all[..25])),
+        (9, file(3, &[(0, 1, 1), (0, 3, 1)])),
+        (9, file(3, &[(3, 0, 1)])),
+        (9, file(3, &[(1, 1, 1)])),
+        (9, file(3, &[(0, 1, 0)])),
+        (9, file(3, &[(2, 2, 1), (0, 1, 1)])),
+        (10, file(3, &[(0, 1, 1), (0, 1, 1)])),
+        (10, file(3, &[(0, 1, 2), (0, 1, 1)])),
+        (10, file(3, &[(0, 2, 1), (0, 1, 2)])),
+        (10, file(3, &[(1, 2, 1), (0, 1, 1), (2, 2, 1)])),
+        (11, file(3, &[(0, 1, 1)])),
+        (11, file(4, &[(0, 1, 1), (2, 3, 1)])),
+    ] {
+        cases.push((refusal, with(1, file)));
+    }
+    cases
+}
+
+fn of_check_plan() -> Vec<Refused> {
+    let apart = Query::plain(5, &[(0, 1), (1, 4), (2, 3), (3, 4)]);
+    let complete = Query::plain(8, &(0..24).map(|i| (i / 7, i % 7 + usize::from(i / 7 <= i % 7))).collect::<Vec<_>>());
+    assert_eq!(complete.edges.len(), 24);
+    let mut cases = cut_and_stretched(2, 7, 12, 13);
+    cases.push((12, with(2, pack([(31, 5), (0, 2), (0, 5)]))));
+    cases.push((14, with(2, pack([(0, 5)]))));
+    for (refusal, query, operators) in [
+        (14, triangle(), &[Scan(0), Unknown][..]),
+        (14, triangle(), &[Scan(3)]),
+        (14, triangle(), &[Scan(0), Extend(3)]),
+        (15, triangle(), &[Extend(2)]),
+        (15, triangle(), &[Scan(0), Join]),
+        (15, triangle(), &[Scan(0), Extend(2), Scan(0)]),
+        (16, triangle(), &[Scan(0), Extend(1)]),
+        (16, apart.clone(), &[Scan(0), Extend(2)]),
+        (17, apart, &[Scan(0), Scan(2), Join]),
+        (17, triangle(), &[Scan(0), Extend(2), Scan(0), Join]),
+        (17, triangle(), &[Scan(0), Scan(0), Extend(2), Join]),
+        (17, diamond(), &[Scan(0), Extend(3), Scan(1), Extend(3), Join]),
+        (18, triangle(), &[Scan(0)]),
+        (18, complete, &[Scan(23)]),
+    ] {
+        cases.push((refusal, files(&g(), &query, operators)));
+    }
+    cases
+}
+
+/// Edges of label 1, scanned: so many rows.
+fn scan(rows: u16) -> Files {
+    let pairs: Vec<(u16, u16)> = (0..rows).map(|i| (i / 33, i % 33)).collect();
+    files(&graph(33, &pairs), &Query::plain(2, &[(0, 1)]), &[Scan(0)])
+}
+
+fn two_labels() -> Query {
+    Query::new(vec![0; 3], vec![(0, 1, 1), (1, 2, 2)])
+}
+
+/// So many edges of label 1, of which the first is extended to so many rows by edges of label 2.
+fn extend(operands: u16, rows: u16) -> Files {
+    let edges = (1..=operands).map(|t| (0, 1, t)).chain((0..rows).map(|t| (1, 2, t))).collect();
+    files(&Graph::new(vec![0; 700], edges), &two_labels(), &[Scan(0), Extend(2)])
+}
+
+/// So many edges of label 1, joined with so many of label 2: four rows, since two of each meet in vertex 40.
+fn join(build: u16, probe: u16) -> Files {
+    let mut edges: Vec<Edge> = vec![(0, 1, 40), (1, 1, 40), (40, 2, 0), (40, 2, 1)];
+    edges.extend((0..build - 2).map(|i| (i / 16, 1, i % 16)));
+    edges.extend((0..probe - 2).map(|i| (16 + i / 22, 2, i % 22)));
+    files(&Graph::new(vec![0; 41], edges), &two_labels(), &[Scan(0), Scan(1), Join])
+}
+
+/// Needs of 2,048 words, which run, and of few words more. The rows of the first fill the list too.
+#[test]
+fn the_last_word_of_the_scratch() {
+    for (files, rows, need) in [
+        (scan(1_024), 1_024, 2_048),
+        (scan(1_025), 1_025, 2_050),
+        (extend(1, 682), 682, 2_048),
+        (extend(3, 681), 681, 2_049),
+        (join(252, 512), 4, 2_048),
+        (join(253, 511), 4, 2_049),
+    ] {
+        let (_, answer) = unbounded(&files).unwrap();
+        assert_eq!((answer.count, answer.need), (rows, need));
+        let text = run(&files);
+        assert_eq!(text == "refused 20\n", need > 2_048, "{text}");
+        assert_eq!(text, printed(&files));
+    }
+}
+
+fn of_run() -> Vec<Refused> {
+    [scan(1_025), extend(1, 683), extend(3, 681), join(253, 511)].into_iter().map(|files| (20, files)).collect()
+}
+
+/// Each refusal that the program can give. Not 19, since Run gets the store that Load wrote; nor 21, since the need counts the
+/// rows of the last result and the list is as long as the scratch: rows that do not fit it are refused with 20.
+#[test]
+fn every_refusal() {
+    let mut seen = BTreeSet::new();
+    for (refusal, files) in [of_load(), of_read_query(), of_check_plan(), of_run()].concat() {
+        assert_eq!(run(&files), format!("refused {refusal}\n"), "{files:02x?}");
+        seen.insert(refusal);
+    }
+    assert_eq!(seen.into_iter().collect::<Vec<_>>(), (1..=18).chain([20]).collect::<Vec<_>>());
+}
+
+/// Files of any kind, valid and damaged, against the judge.
+#[test]
+fn random_files() {
+    let (mut accepted, mut refusals) = (0, BTreeSet::new());
+    each(0..1_000, |r| {
+        let graph = Graph::random(r, 9);
+        let query = Query::random(r, 5);
+        let mut operators = plan::random(r, &query);
+        if r.chance(1, 6) {
+            plan::disturb(r, &query, &mut operators);
+        }
+        let mut files = files(&graph, &query, &operators);
+        if r.chance(1, 3) {
+            r.damage(&mut files[r.below(3)]);
+        }
+        let text = run(&files);
+        assert_eq!(text, printed(&files), "{files:02x?}");
+        match answer(&files) {
+            Ok((_, answer)) => accepted += usize::from(answer.count > 0),
+            Err(refusal) => drop(refusals.insert(refusal)),
+        }
+    });
+    assert!(accepted > 150 && refusals.len() > 12, "{accepted} runs with rows; refused with {refusals:?}");
+}
+
+/// Reads that bring one byte each, or few, bring the whole file.
+#[test]
+fn short_reads() {
+    let longest = files(&sized(371, 1_489), &Query::new(vec![0; 2], vec![(0, 1, 5)]), &[Scan(0)]);
+    let long = with(2, stretched(&worked()[2], MAX_BYTES + 1));
+    for most in ["1", "3", "1000", "4097", "8191", "8192"] {
+        for files in [worked(), longest.clone(), long.clone()] {
+            assert_eq!(run_reading(&files, &[("READ_AT_MOST", most)]), printed(&files), "{most} bytes a read");
+        }
+    }
+}
+
+/// A read that breaks off before the end of a file gives what a missing file gives, wherever it does.
+#[test]
+fn a_read_that_breaks_off() {
+    for (at, refusal) in [(0, 1), (1, 6), (2, 12)] {
+        for after in 0..worked()[at].len() {
+            let text = run_reading(&worked(), &[("BROKEN_FILE", FILES[at]), ("BROKEN_AFTER", &after.to_string())]);
+            assert_eq!(text, format!("refused {refusal}\n"), "{} after {after} bytes", FILES[at]);
+        }
+    }
+}
