@@ -362,12 +362,16 @@ fn short_reads() {
     }
 }
 
-/// A read that breaks off before the end of a file gives what a missing file gives, wherever it does.
+/// A read that breaks off gives what a missing file gives, wherever it does: also after the last byte, and where the bytes that
+/// came would be taken as a file.
 #[test]
 fn a_read_that_breaks_off() {
     for (at, refusal) in [(0, 1), (1, 6), (2, 12)] {
-        for after in 0..worked()[at].len() {
-            let text = run_reading(&worked(), &[("BROKEN_FILE", FILES[at]), ("BROKEN_AFTER", &after.to_string())]);
+        let good = &worked()[at];
+        let longer = stretched(good, good.len() + 1);
+        for (after, file) in (0..=good.len()).map(|after| (after, good)).chain([(good.len(), &longer)]) {
+            let variables = [("BROKEN_FILE", FILES[at]), ("BROKEN_AFTER", &after.to_string())];
+            let text = run_reading(&with(at, file.clone()), &variables);
             assert_eq!(text, format!("refused {refusal}\n"), "{} after {after} bytes", FILES[at]);
         }
     }

@@ -17,8 +17,8 @@ use Rattle.matching.specs.Match.{fits, holds, permits}
 use Rattle.operators.specs.Scan.{scans, scanRows}
 use Rattle.operators.specs.Extend.{candidates, grown, sameUsed, reuses, extendAfter, extendRows, portionFor, rowCost, costAfter, extendCost}
 use Rattle.operators.specs.Join.{agree, partners, joinRows, heads}
-use Rattle.run.specs.Pile.{apply, costOf, buildOf, probeOf, tableOf, topWords, needOf, pileAfter, sumOver, needFrom}
-use Rattle.run.specs.Run.{topRows, planRows, planCost, planBuild, planProbe, planNeed, runFault, runAnswer, runList}
+use Rattle.execution.specs.Pile.{apply, costOf, buildOf, probeOf, tableOf, topWords, needOf, pileAfter, sumOver, needFrom}
+use Rattle.execution.specs.Run.{topRows, planRows, planCost, planBuild, planProbe, planNeed, runFault, runAnswer, runList}
 use Rattle.cases.specs.Cases.{passes, starred}
 
 pub starred-pass : all passes starred ≡ true

@@ -1,3 +1,2 @@
--- Extend in words: an operand row's rows, and what one turn does to the scratch; and what the caller hands over.
-pub mod Words
-pub mod Given
+-- No public contract cites a definition of this crate: all are of inner functions.
+pub mod inner

@@ -13,13 +13,13 @@ use Rattle.lists.proofs.All.{all-getD, all-range}
 use Rattle.lists.proofs.Count.{all-map}
 use Rattle.lists.proofs.Maps.{map-indices}
 use Rattle.packed.specs.Field.{fieldAt, fillSet, bytesFor}
-use Rattle.packed.specs.Encode.{bitsOf, bytesOf, number, bitIn}
+use Rattle.packed.specs.inner.Encode.{bitsOf, bytesOf, number, bitIn}
 use Rattle.packed.proofs.Number.{number-lt}
 use Rattle.packed.proofs.Encoded.{bitIn-lt, length-bytesOf, fill-bytesOf}
 use Rattle.packed.proofs.RoundTrip.{length-bitsOf, length-records, number-bitsOf, number-put, field-put, field-record}
 use Rattle.graph.specs.Graph.{Edge, Graph}
 use Rattle.graph.specs.File.{graphOf, graphFault, vertexCount, edgeCount, edgeStart, edgeIn, fileSize}
-use Rattle.graph.specs.Encode.{edgeBits, graphBits, encode}
+use Rattle.graph.specs.inner.Encode.{edgeBits, graphBits, encode}
 use Rattle.graph.specs.Store.{wellFormed}
 use Rattle.graph.proofs.WellFormed.{WellFormed, Fitting, fitting, fitting-edge, well-formed}
 use Rattle.graph.proofs.FileGraph.{accepts, formed-file}

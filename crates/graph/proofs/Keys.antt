@@ -12,7 +12,7 @@ use Rattle.lists.proofs.Count.{count-map, count-under, count-mono}
 use Rattle.lists.proofs.Sort.{ascending-once, sort-ascending, sort-ascends, count-sort}
 use Rattle.lists.proofs.Maps.{map-under}
 use Rattle.graph.specs.Graph.{Edge, Graph, Direction, forward, backward, near, far, entry, key}
-use Rattle.graph.specs.Store.{edgeOf, entries}
+use Rattle.graph.specs.Store.{entryEdge, entries}
 use Rattle.graph.proofs.WellFormed.{Fitting, WellFormed, fitting, fitting-edge}
 
 -- The entry in a key, and the test that a key is one of an edge at v.
@@ -69,7 +69,7 @@ module _ (g : Graph) (w : WellFormed g) (d : Direction) (e : Edge) (t : fitting 
   entry-far = omega (arith, far-in)
 
 -- An entry of the forward list tells its edge.
-pub edge-of : (g : Graph) → WellFormed g → (e : Edge) → fitting (g .vertices) e ≡ true → edgeOf (e .source) (entry forward e) ≡ e
+pub edge-of : (g : Graph) → WellFormed g → (e : Edge) → fitting (g .vertices) e ≡ true → entryEdge (e .source) (entry forward e) ≡ e
 edge-of g w e t = λ i. record { source = e .source; label = entry-label g w forward e t i; target = entry-far g w forward e t i }
 
 -- ---- the keys of all edges

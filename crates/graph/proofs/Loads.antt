@@ -1,7 +1,8 @@
 -- Which stores accepted graph files load to: '19 no accepted graph file loads to this store, words past the used ones ignored'.
 -- A store is not refused exactly where some accepted file's words are its first ones. Assumes nothing.
-use mathlib.Core.Path.{_≡_, sym, _∙_, ap, subst}
-use mathlib.Core.Bool.{Bool, true, not, _&&_}
+use mathlib.Core.Path.{_≡_, refl, sym, _∙_, ap, subst}
+use mathlib.Core.Logic.{_⊎_, inl, inr, ⊎-elim}
+use mathlib.Core.Bool.{Bool, true, false, not, _&&_}
 use mathlib.Core.List.{List, _++_}
 use Prim.Native.Nat.{ℕ, _≤_}
 use native.Mathlib.Omega.{arith}
@@ -9,14 +10,14 @@ use lib.Dec.{ltb}
 use lib.ListN.{length, take, drop, take-append-drop, length-append}
 use borrow.Author.Tests.{eq-eqb, le-ltb}
 use Rattle.lists.specs.Lists.{all, same}
-use Rattle.lists.specs.Refusal.{first}
+use Rattle.lists.specs.Refusal.{refuse, first}
 use Rattle.lists.proofs.Tests.{and-l, and-r, not-false}
 use Rattle.lists.proofs.Same.{same-true}
 use Rattle.lists.proofs.Faults.{refuse-zero, first-head}
 use Rattle.graph.specs.Graph.{Graph}
 use Rattle.graph.specs.File.{graphOf, graphFault}
-use Rattle.graph.specs.Encode.{encode}
-use Rattle.graph.specs.Store.{storeOf, storeSize, loadFault, loadStore, graphIn, wellFormed, storeFault}
+use Rattle.graph.specs.inner.Encode.{encode}
+use Rattle.graph.specs.Store.{storeOf, storeSize, LoadsTo, loadFault, loadStore, graphIn, wellFormed, storeFault, Refuses19}
 use Rattle.graph.proofs.WellFormed.{well-formed}
 use Rattle.graph.proofs.Parts.{length-store}
 use Rattle.graph.proofs.FileGraph.{file-well-formed}
@@ -98,3 +99,43 @@ load-exists store e = (file, fits, load-store file store fits ∙ sym whole, acc
         let size : length (storeOf (graphOf file)) ≡ storeSize (graphOf file) =
         length-store (graphOf file) (well-formed (graphOf file) (file-well-formed file (accepted-loads store e .1)) .labelled) in
         load-fits file (length store) (accepted-loads store e .1) (omega (arith, simp length-append at (ap length whole)))
+
+-- A store that an accepted file loads to is not refused.
+pub loaded-accepted : (file store : List ℕ) → LoadsTo file store → storeFault store ≡ 0
+loaded-accepted file store loads =
+    ap storeFault (sym (ap (λ (l : List ℕ). l ++ drop (storeSize (graphOf file)) store) (sym (loads .words)) ∙ take-append-drop (storeSize (graphOf file)) store))
+    ∙ loads-accepted file (loads .accepted) (drop (storeSize (graphOf file)) store) .0
+
+-- The fault is 0 or 19.
+either : (b : Bool) → (refuse 19 b ≡ 0) ⊎ (refuse 19 b ≡ 19)
+either true = inr refl
+either false = inl refl
+
+zero-or-19 : (store : List ℕ) → (storeFault store ≡ 0) ⊎ (storeFault store ≡ 19)
+unfolding storeFault
+zero-or-19 store =
+    let g = graphIn store in
+    either (not (wellFormed g && same (take (storeSize g) store) (storeOf g)))
+
+-- A store that is not refused has a file.
+file-of : (store : List ℕ) → storeFault store ≡ 0 → (file : List ℕ) × LoadsTo file store × (all (λ (b : ℕ). ltb b 256) file ≡ true)
+file-of store e =
+    let found = accepted-loads store e in (
+      found .0,
+      record {
+        accepted = found .1;
+        words = subst (λ (g : Graph). take (storeSize g) store ≡ storeOf g) (sym (found .2)) (store-formed store e .1);
+      },
+      found .4,
+    )
+
+-- '19 no accepted graph file loads to this store, words past the used ones ignored.'
+pub refuses-19 : (store : List ℕ) → Refuses19 store
+refuses-19 store =
+    record {
+      none = (
+        λ e file loads. let z : _≡_ {A = ℕ} 0 19 = sym (loaded-accepted file store loads) ∙ e in omega arith,
+        λ lacks. ⊎-elim (λ e. absurd (lacks (file-of store e .0) (file-of store e .1))) (λ e. e) (zero-or-19 store),
+      );
+      one = (file-of store, λ some. loaded-accepted (some .0) store (some .1));
+    }

@@ -13,7 +13,8 @@ use Rattle.lists.proofs.All.{length-range}
 use Rattle.lists.proofs.Sort.{length-sort}
 use Rattle.lists.proofs.Maps.{getD-image}
 use Rattle.graph.specs.Graph.{Edge, Graph, Direction, forward, backward, near, key}
-use Rattle.graph.specs.Store.{offsets, entries, storeOf, storeSize, sideAt}
+use Rattle.graph.specs.Store.{offsets, entries, storeOf, storeSize}
+use Rattle.graph.specs.inner.Side.{sideAt}
 
 pub length-offsets : (d : Direction) (g : Graph) → length (offsets d g) ≡ suc (g .vertices)
 unfolding offsets

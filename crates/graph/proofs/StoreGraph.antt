@@ -17,7 +17,7 @@ use Rattle.lists.proofs.Faults.{zero-refuse}
 use Rattle.lists.proofs.Maps.{keep-map, map-under}
 use Rattle.lists.proofs.Cut.{cut-parts}
 use Rattle.graph.specs.Graph.{Edge, Graph, forward, key}
-use Rattle.graph.specs.Store.{storeOf, listIn, edgeOf, graphIn, wellFormed, storeSize, storeFault}
+use Rattle.graph.specs.Store.{storeOf, listIn, entryEdge, graphIn, wellFormed, storeSize, storeFault}
 use Rattle.graph.proofs.WellFormed.{WellFormed, fitting, well-formed}
 use Rattle.graph.proofs.Keys.{entryIn, keyAt, key-at, near-in, key-near, key-entry, key-below, edge-of, sortedKeys, forward-keys}
 use Rattle.graph.proofs.Parts.{offset, sideStart, length-store, store-shape, store-offset}
@@ -25,14 +25,14 @@ use Rattle.graph.proofs.VertexLists.{listAt, vertex-list}
 
 module _ (g : Graph) (w : WellFormed g) where
   -- The entries in the forward list of v tell the edges from v, in the file's order.
-  edges-at : (v : ℕ) → map (edgeOf v) (map entryIn (keep (keyAt v) (sortedKeys forward g)))
+  edges-at : (v : ℕ) → map (entryEdge v) (map entryIn (keep (keyAt v) (sortedKeys forward g)))
       ≡ keep (λ (e : Edge). keyAt v (key forward e)) (g .edges)
   edges-at v =
-      ap (λ (ks : List ℕ). map (edgeOf v) (map entryIn (keep (keyAt v) ks))) (forward-keys g w)
-      ∙ ap (λ (ks : List ℕ). map (edgeOf v) (map entryIn ks)) (keep-map (keyAt v) (key forward) (g .edges))
-      ∙ ap (map (edgeOf v)) (map-map entryIn (key forward) (keep at (g .edges)))
-      ∙ map-map (edgeOf v) (λ (e : Edge). entryIn (key forward e)) (keep at (g .edges))
-      ∙ map-under (λ (e : Edge). fit e && at e) (λ (e : Edge). edgeOf v (entryIn (key forward e))) (λ (e : Edge). e) (keep at (g .edges))
+      ap (λ (ks : List ℕ). map (entryEdge v) (map entryIn (keep (keyAt v) ks))) (forward-keys g w)
+      ∙ ap (λ (ks : List ℕ). map (entryEdge v) (map entryIn ks)) (keep-map (keyAt v) (key forward) (g .edges))
+      ∙ ap (map (entryEdge v)) (map-map entryIn (key forward) (keep at (g .edges)))
+      ∙ map-map (entryEdge v) (λ (e : Edge). entryIn (key forward e)) (keep at (g .edges))
+      ∙ map-under (λ (e : Edge). fit e && at e) (λ (e : Edge). entryEdge v (entryIn (key forward e))) (λ (e : Edge). e) (keep at (g .edges))
       (all-keep (λ (e : Edge). fit e && at e) at (g .edges)
       ∙ all-follows fit (λ (e : Edge). at e ⇒ (fit e && at e)) (g .edges) (w .edges-fit)
       (λ e t. imp-intro (at e) (fit e && at e) (and-both (fit e) (at e) t)))
@@ -45,10 +45,10 @@ module _ (g : Graph) (w : WellFormed g) where
       at : Edge → Bool
       at e = keyAt v (key forward e)
 
-      told : (e : Edge) → fit e ≡ true → at e ≡ true → edgeOf v (entryIn (key forward e)) ≡ e
+      told : (e : Edge) → fit e ≡ true → at e ≡ true → entryEdge v (entryIn (key forward e)) ≡ e
       told e t a =
           let from : v ≡ e .source = sym (eqb-true _ v (sym (key-at v (key forward e)) ∙ a)) ∙ key-near g w forward e t in
-          ap₂ (λ (x k : ℕ). edgeOf x k) from (key-entry g w forward e t) ∙ edge-of g w e t
+          ap₂ (λ (x k : ℕ). entryEdge x k) from (key-entry g w forward e t) ∙ edge-of g w e t
 
   module _ (rest : List ℕ) where
     list-in : (v : ℕ) → v < g .vertices → listIn (storeOf g ++ rest) v ≡ listAt forward g (storeOf g ++ rest) v
@@ -66,11 +66,11 @@ module _ (g : Graph) (w : WellFormed g) where
         ap (λ (l : List ℕ). take (g .vertices) (drop 2 l)) (store-shape g rest)
         ∙ take-at (g .labels) _ (g .vertices) (w .labelled)
 
-    edges-in : flatMap (λ (v : ℕ). map (edgeOf v) (listIn (storeOf g ++ rest) v)) (range (g .vertices)) ≡ g .edges
+    edges-in : flatMap (λ (v : ℕ). map (entryEdge v) (listIn (storeOf g ++ rest) v)) (range (g .vertices)) ≡ g .edges
     edges-in =
         cut-parts (key forward) (g .edges) (w .edges-ascend) (λ (v : ℕ). v * 16777216) refl (λ v. omega arith)
-        (λ (v : ℕ). map (edgeOf v) (listIn (storeOf g ++ rest) v)) (g .vertices)
-        (λ v l. ap (map (edgeOf v)) (list-in v l ∙ vertex-list g w forward v rest) ∙ edges-at v)
+        (λ (v : ℕ). map (entryEdge v) (listIn (storeOf g ++ rest) v)) (g .vertices)
+        (λ v l. ap (map (entryEdge v)) (list-in v l ∙ vertex-list g w forward v rest) ∙ edges-at v)
         ∙ keep-all (λ (e : Edge). ltb (key forward e) (g .vertices * 16777216)) (g .edges)
         (all-follows (fitting (g .vertices)) (λ (e : Edge). ltb (key forward e) (g .vertices * 16777216)) (g .edges) (w .edges-fit)
         (λ e t. key-below g w forward e t (g .vertices) ∙ lt-ltb (e .source) (g .vertices) (near-in g w forward e t)))

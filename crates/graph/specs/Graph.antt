@@ -18,6 +18,26 @@ pub record Graph : Type 0 where
   pub labels : List ℕ
   pub edges : List Edge
 
+-- The limits of a graph: 'N vertices (16 bits), M edges (20 bits), N vertex labels (16 bits each)'; 'edge labels are 1 to 255'.
+abbrev pub maxGraphVertices : ℕ
+maxGraphVertices = 65535
+
+abbrev pub maxGraphEdges : ℕ
+maxGraphEdges = 1048575
+
+abbrev pub maxVertexLabel : ℕ
+maxVertexLabel = 65535
+
+abbrev pub maxEdgeLabel : ℕ
+maxEdgeLabel = 255
+
+-- An entry is 'label × 65,536 + neighbour', so every entry is below the label after the last one times as much.
+abbrev pub entrySpan : ℕ
+entrySpan = 65536
+
+abbrev pub entryEnd : ℕ
+entryEnd = 16777216
+
 -- The two ways along an edge. The near end is where the way starts.
 pub data Direction : Type 0 where
   forward backward : Direction
@@ -32,11 +52,11 @@ far backward e = e .source
 
 -- An entry: 'label × 65,536 + neighbour'.
 abbrev pub entry : Direction → Edge → ℕ
-entry d e = e .label * 65536 + far d e
+entry d e = e .label * entrySpan + far d e
 
 -- (near end, label, far end) as one number: edges ascend 'by (source, label, target)' where their forward keys do.
 abbrev pub key : Direction → Edge → ℕ
-key d e = near d e * 16777216 + entry d e
+key d e = near d e * entryEnd + entry d e
 
 -- Which edge labels the portion for a query's label covers: its equal.
 unfoldable pub covers : ℕ → ℕ → Bool

@@ -1,5 +1,5 @@
 -- The graph: its file, its store, what Load answers and which stores are refused.
 pub mod Graph
 pub mod File
-pub mod Encode
 pub mod Store
+pub mod inner

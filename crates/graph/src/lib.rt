@@ -3,7 +3,8 @@ ghost use mathlib.Core.Path.{_≡_};
 ghost use Prim.Native.Nat.{_≤_};
 ghost use lib.ListN.{length, getD};
 ghost use Rattle.graph.specs.Graph.{forward, backward};
-ghost use Rattle.graph.specs.Store.{sideAt, usedWords};
+ghost use Rattle.graph.specs.Store.{usedWords};
+ghost use Rattle.graph.specs.inner.Side.{sideAt};
 
 // The counts of a graph, and where its words lie in a store. A side is N + 1 offsets followed by M entries; the forward side
 // has the targets of each source, the backward side the sources of each target.
@@ -16,8 +17,10 @@ impl Graph {
     pub const MAX_VERTICES: usize = 65535;
 
     pub const MAX_EDGES: usize = 1048575;
+
+    pub const MAX_VERTEX_LABEL: u32 = 65535;
     // Edge labels are 1 to this.
-    pub const MAX_LABEL: usize = 255;
+    pub const MAX_EDGE_LABEL: usize = 255;
     // The position of the labels.
     pub const LABELS: usize = 2;
     // An entry is label × SPAN + neighbour.

@@ -15,18 +15,18 @@ use Rattle.lists.proofs.Count.{all-map, all-flatMap}
 use Rattle.lists.proofs.Parts.{drop-take}
 use Rattle.query.specs.Query.{Query, VertexSet}
 use Rattle.query.specs.File.{maxVertices}
-use Rattle.query.specs.Mask.{inMask}
+use Rattle.query.specs.inner.Mask.{inMask}
 use Rattle.query.proofs.Masks.{in-or}
 use Rattle.plan.specs.Plan.{union}
-use Rattle.matching.specs.Row.{width, pack, rowsOf}
-use Rattle.matching.proofs.Rows.{isRow, pack-row}
+use Rattle.matching.specs.Row.{width, pack, rowsOf, isRow}
+use Rattle.matching.proofs.Rows.{pack-row}
 use Rattle.operators.specs.Join.{joined, partners, joinRows, heads}
-use Rattle.operators.specs.Written.{Written}
+use Rattle.operators.specs.inner.Written.{Written}
 use Rattle.rows.proofs.Widths.{width-past, width-zero, width-suc, row-is}
 use Rattle.rows.proofs.Laid.{rows-wide, length-flatten}
-use Rattle.join.specs.Place.{buildRows}
-use Rattle.join.specs.Joined.{probeWords, Filled}
-use Rattle.join.specs.Operands.{Operands, Members, IsLayout, columnsFor}
+use Rattle.join.specs.inner.Place.{buildRows}
+use Rattle.join.specs.inner.Joined.{probeWords, Filled}
+use Rattle.join.specs.inner.Operands.{Operands, Members, IsLayout, columnsFor}
 use Rattle.join.specs.declared.Layout.{Layout}
 use Rattle.join.specs.declared.Reached.{Reached}
 use Rattle.join.proofs.Meaning.{both-width, words-are}

@@ -1,6 +1,2 @@
--- The hash join: keys of rows, the table of build rows, and the rows of probe rows with their partners.
-pub mod Key
-pub mod Table
-pub mod Place
-pub mod Joined
-pub mod Operands
+-- No public contract cites a definition of this crate: all are of inner functions.
+pub mod inner

@@ -10,7 +10,7 @@ use Rattle.graph.specs.File.{graphOf, graphFault, vertexCount, edgeCount}
 use Rattle.graph.specs.Store.{storeOf, usedWords, storeSize, loadFault, loadStore}
 use Rattle.graph.proofs.FileGraph.{accepted}
 use Rattle.graph.proofs.Loads.{load-store}
-use Rattle.load.specs.Reading.{Whole}
+use Rattle.load.specs.inner.Reading.{Whole}
 use Rattle.load.specs.Answer.{loadAnswer}
 use Rattle.load.proofs.Refused.{length-edges, store-words, file-whole}
 

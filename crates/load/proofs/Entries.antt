@@ -7,7 +7,7 @@ use Rattle.packed.specs.Field.{fieldAt}
 use Rattle.packed.proofs.Laws.{field-add, field-lt}
 use Rattle.graph.specs.Graph.{forward, backward, entry}
 use Rattle.graph.specs.File.{edgeStart, edgeIn}
-use Rattle.load.specs.Reading.{edgeWith}
+use Rattle.load.specs.inner.Reading.{edgeWith}
 
 module _ (s : List ℕ) (i : ℕ) where
   pub entry-field : fieldAt s (edgeStart s i + 16) 24 ≡ entry forward (edgeIn s i)

@@ -18,21 +18,21 @@ use Rattle.graph.specs.Graph.{forward, entry, key}
 use Rattle.graph.specs.File.{graphOf, graphFault, edgeIn, edgeFault, edgeCount, vertexCount, fileSize, badEdge, ascends}
 use Rattle.graph.specs.Store.{usedWords, storeSize, loadFault}
 use Rattle.graph.proofs.Loads.{load-fits}
-use Rattle.load.specs.Reading.{Whole, edgeWith, faultFrom, lengthFault, edgesFault}
+use Rattle.load.specs.inner.Reading.{Whole, edgeWith, faultFrom, graphLengthFault, graphEdgesFault}
 use Rattle.load.proofs.Entries.{entry-edge}
 
 -- A fault of the length or of the fill bits comes before those of edges.
-pub graph-length : (s : List ℕ) → (lengthFault s ≡ 0 → ⊥) → graphFault s ≡ lengthFault s
-unfolding graphFault lengthFault
+pub graph-length : (s : List ℕ) → (graphLengthFault s ≡ 0 → ⊥) → graphFault s ≡ graphLengthFault s
+unfolding graphFault graphLengthFault
 graph-length s h = first-left _ (map (edgeFault s) (range (edgeCount s))) h
 
-pub graph-edges : (s : List ℕ) → lengthFault s ≡ 0 → graphFault s ≡ edgesFault s
-unfolding graphFault lengthFault edgesFault
+pub graph-edges : (s : List ℕ) → graphLengthFault s ≡ 0 → graphFault s ≡ graphEdgesFault s
+unfolding graphFault graphLengthFault graphEdgesFault
 graph-edges s e = first-append _ (map (edgeFault s) (range (edgeCount s))) e
 
 -- A file with no fault of its length is not shorter than its own size.
-pub length-there : (s : List ℕ) → lengthFault s ≡ 0 → fileSize s ≤ length s
-unfolding lengthFault
+pub length-there : (s : List ℕ) → graphLengthFault s ≡ 0 → fileSize s ≤ length s
+unfolding graphLengthFault
 length-there s e = ltb-false (length s) (fileSize s) (refuse-zero 0 _ (first-head _ _ (first-tail _ _ e)))
 
 pub file-whole : (s : List ℕ) {n : ℕ} → n ≡ vertexCount s → fileSize s ≤ length s → Whole s n
@@ -106,8 +106,8 @@ module _ {s : List ℕ} {n least i a e : ℕ} (t : Read s n least i a e) where
   its-fault : {r : ℕ} → r ≡ faultFrom n least (edgeWith a e) → r ≡ edgeFault s i
   its-fault f = f ∙ ap (faultFrom n least) its-edge ∙ rw (t .vertices, t .earlier .key-before) (sym (edge-from s i))
 
-  pub read-fault : {r : ℕ} → i < edgeCount s → r ≡ faultFrom n least (edgeWith a e) → (r ≡ 0 → ⊥) → r ≡ edgesFault s
-  unfolding edgesFault
+  pub read-fault : {r : ℕ} → i < edgeCount s → r ≡ faultFrom n least (edgeWith a e) → (r ≡ 0 → ⊥) → r ≡ graphEdgesFault s
+  unfolding graphEdgesFault
   read-fault h f z = its-fault f ∙ sym (first-stop (edgeFault s) (edgeCount s) i h (t .earlier .none) (λ j. z (its-fault f ∙ j)))
 
   pub read-more : {k : ℕ} → 0 ≡ faultFrom n least (edgeWith a e) → k ≡ key forward (edgeWith a e) → Faultless s (k + 1) (i + 1)

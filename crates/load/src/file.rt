@@ -1,26 +1,26 @@
 // The graph file: N (16 bits), M (20), N labels (16), then M edges of source (16), label (8), target (16); and its faults.
 ghost use mathlib.Core.Path.{_≡_};
-ghost use Prim.Native.Nat.{_+_, _*_, _^_, _≤_, _<_};
+ghost use Prim.Native.Nat.{suc, _+_, _*_, _≤_, _<_};
 ghost use lib.ListN.{length};
 ghost use Rattle.packed.specs.Field.{fieldAt};
-ghost use Rattle.graph.specs.Graph.{forward, entry, key};
+ghost use Rattle.graph.specs.Graph.{maxGraphVertices, maxGraphEdges, maxEdgeLabel, entryEnd, forward, entry, key};
 ghost use Rattle.graph.specs.File.{vertexCount, edgeCount, edgeIn, graphFault};
 ghost use Rattle.graph.specs.Store.{loadFault};
-ghost use Rattle.load.specs.Reading.{Whole, edgeWith, faultFrom, lengthFault, edgesFault};
+ghost use Rattle.load.specs.inner.Reading.{Whole, edgeWith, faultFrom, graphLengthFault, graphEdgesFault};
 use graph::Graph;
 use packed::field;
 use packed::inner_field;
 
 pub fn vertex_count(file: &[u8]) -> usize
     requires { ⌜ 5 ≤ length (now file) ⌝ }
-    ensures { λ r. ⌜ (r ≡ vertexCount (now (file .entry))) × (r < 65536) ⌝ }
+    ensures { λ r. ⌜ (r ≡ vertexCount (now (file .entry))) × (r < suc maxGraphVertices) ⌝ }
 {
     field(file, 0, 16) as usize
 }
 
 pub fn edge_count(file: &[u8]) -> usize
     requires { ⌜ 5 ≤ length (now file) ⌝ }
-    ensures { λ r. ⌜ (r ≡ edgeCount (now (file .entry))) × (r < 1048576) ⌝ }
+    ensures { λ r. ⌜ (r ≡ edgeCount (now (file .entry))) × (r < suc maxGraphEdges) ⌝ }
 {
     field(file, 16, 20) as usize
 }
@@ -35,7 +35,7 @@ pub fn vertex_label(file: &[u8], n: usize, v: usize) -> u32
 
 // The bit position of edge i in a file of n vertices.
 fn edge_start(n: usize, i: usize) -> usize
-    requires { ⌜ (n < 65536) × (i < 1048576) ⌝ }
+    requires { ⌜ (n < suc maxGraphVertices) × (i < suc maxGraphEdges) ⌝ }
     ensures { λ r. ⌜ r ≡ 36 + 16 * n + 40 * i ⌝ }
 {
     36 + 16 * n + 40 * i
@@ -43,7 +43,7 @@ fn edge_start(n: usize, i: usize) -> usize
 
 pub fn source(file: &[u8], n: usize, i: usize) -> u32
     requires { ⌜ Whole (now file) n × (i < edgeCount (now file)) ⌝ }
-    ensures { λ r. ⌜ (r ≡ edgeIn (now (file .entry)) i .source) × (r < 65536) ⌝ }
+    ensures { λ r. ⌜ (r ≡ edgeIn (now (file .entry)) i .source) × (r < suc maxGraphVertices) ⌝ }
 {
     inner_field(file, edge_start(n, i), 16)
 }
@@ -51,21 +51,21 @@ pub fn source(file: &[u8], n: usize, i: usize) -> u32
 // The entry of edge i on the forward side: its label and its target, which are 24 bits together.
 pub fn forward_entry(file: &[u8], n: usize, i: usize) -> u32
     requires { ⌜ Whole (now file) n × (i < edgeCount (now file)) ⌝ }
-    ensures { λ r. ⌜ (r ≡ entry forward (edgeIn (now (file .entry)) i)) × (r < 2 ^ 24) ⌝ }
+    ensures { λ r. ⌜ (r ≡ entry forward (edgeIn (now (file .entry)) i)) × (r < entryEnd) ⌝ }
 {
     inner_field(file, edge_start(n, i) + 16, 24)
 }
 
 pub fn label(file: &[u8], n: usize, i: usize) -> u32
     requires { ⌜ Whole (now file) n × (i < edgeCount (now file)) ⌝ }
-    ensures { λ r. ⌜ (r ≡ edgeIn (now (file .entry)) i .label) × (r < 256) ⌝ }
+    ensures { λ r. ⌜ (r ≡ edgeIn (now (file .entry)) i .label) × (r < suc maxEdgeLabel) ⌝ }
 {
     forward_entry(file, n, i) / Graph::SPAN
 }
 
 // 1 where the file is shorter than 5 bytes or than its own size, 2 where it is longer or a fill bit is set, else 0.
 fn length_fault(file: &[u8]) -> u32
-    ensures { λ r. ⌜ r ≡ lengthFault (now (file .entry)) ⌝ }
+    ensures { λ r. ⌜ r ≡ graphLengthFault (now (file .entry)) ⌝ }
 {
     if file.len() < 5 {
         return 1;
@@ -87,17 +87,17 @@ fn length_fault(file: &[u8]) -> u32
 
 // (source, label, target) as one number, of a source and a forward entry.
 fn edge_key(s: u32, e: u32) -> u64
-    requires { ⌜ e < 2 ^ 24 ⌝ }
+    requires { ⌜ e < entryEnd ⌝ }
     ensures { λ r. ⌜ r ≡ key forward (edgeWith s e) ⌝ }
 {
-    s as u64 * 16777216 + e as u64
+    s as u64 * Graph::ENTRY_END as u64 + e as u64
 }
 
 // 3 or 4 of the first edge at fault, else 0. `least` is one more than the key of the edge before. The tests stand in the loop, so that each
 // is a branch that is never taken.
 fn edges_fault(file: &[u8], n: usize, m: usize) -> u32
     requires { ⌜ Whole (now file) n × (m ≡ edgeCount (now file)) ⌝ }
-    ensures { λ r. ⌜ r ≡ edgesFault (now (file .entry)) ⌝ }
+    ensures { λ r. ⌜ r ≡ graphEdgesFault (now (file .entry)) ⌝ }
 {
     let mut least = 0;
     let mut i = 0;

@@ -13,7 +13,7 @@ use Rattle.lists.specs.Lists.{range}
 use Rattle.lists.proofs.All.{length-range, getD-range}
 use Rattle.lists.proofs.Maps.{getD-map}
 use Rattle.packed.specs.Field.{bitAt, fieldAt, bytesFor, fillSet}
-use Rattle.packed.specs.Encode.{number, bitIn, bytesOf}
+use Rattle.packed.specs.inner.Encode.{number, bitIn, bytesOf}
 use Rattle.packed.proofs.Number.{number-ext, number-lt, number-digit}
 use Rattle.packed.proofs.Laws.{field-number}
 

@@ -18,20 +18,21 @@ use Rattle.packed.specs.Field.{bitsIn}
 use Rattle.packed.proofs.Laws.{field-lt}
 use Rattle.query.specs.Query.{Query}
 use Rattle.query.specs.File.{queryOf, queryFault}
-use Rattle.query.specs.Parts.{Readable}
-use Rattle.query.specs.Answer.{structOf, Held}
+use Rattle.query.specs.inner.Parts.{Readable}
+use Rattle.query.specs.Answer.{structOf}
+use Rattle.query.specs.inner.Struct.{Held}
 use Rattle.query.proofs.FileLaws.{query-readable as readable, query-held as holds}
 use Rattle.plan.specs.Plan.{scan, extend, join}
 use Rattle.plan.specs.Check.{rulesFault}
 use Rattle.plan.specs.File.{operatorCount, kindAt, operandAt, operatorAt, place, operatorsOf, operatorFault, planFault, checkFault}
-use Rattle.plan.specs.Parts.{ofSize, endFaults, operatorsFaults, fileFault}
-use Rattle.plan.specs.Answer.{maxOperators}
-use Rattle.plan.specs.Pile.{named}
+use Rattle.plan.specs.inner.Parts.{ofSize, endFaults, operatorsFaults, planFileFault}
+use Rattle.plan.specs.Plan.{maxOperators}
+use Rattle.plan.specs.inner.Pile.{named}
 use Rattle.plan.proofs.Places.{operator-there}
 
 -- The faults of a plan are those of its file, then those of its rules.
-pub plan-fault : (q : Query) (s : List ℕ) → planFault q s ≡ first (fileFault q s ∷ rulesFault q [] (operatorsOf s) ∷ [])
-unfolding planFault fileFault
+pub plan-fault : (q : Query) (s : List ℕ) → planFault q s ≡ first (planFileFault q s ∷ rulesFault q [] (operatorsOf s) ∷ [])
+unfolding planFault planFileFault
 plan-fault q s =
     rw (← append-assoc (map (λ (i : ℕ). operatorFault q s (place s i)) (range (operatorCount s))) (endFaults s (place s (operatorCount s))) rules)
     (first-group (refuse 12 (ltb (bitsIn s) 5) ∷ refuse 14 (eqb (operatorCount s) 0) ∷ operatorsFaults q s (operatorCount s)) rules)
@@ -40,8 +41,8 @@ plan-fault q s =
     rules = rulesFault q [] (operatorsOf s) ∷ []
 
 -- The faults of a plan's file look at the size of the query alone, which its struct has.
-pub file-fault-size : (q : Query) (s : List ℕ) → fileFault (ofSize (structOf q .vertices) (structOf q .edges)) s ≡ fileFault q s
-unfolding fileFault structOf
+pub file-fault-size : (q : Query) (s : List ℕ) → planFileFault (ofSize (structOf q .vertices) (structOf q .edges)) s ≡ planFileFault q s
+unfolding planFileFault structOf
 file-fault-size q s = rw (length-replicate (length (q .edges)))
 
 -- An operator without fault names what the query has.
@@ -60,14 +61,14 @@ operator-named q s at e =
     go false true x h k = not-false _ k
     go false false x h k = refl
 
-module _ (q : Query) (s : List ℕ) (ok : fileFault q s ≡ 0) where
+module _ (q : Query) (s : List ℕ) (ok : planFileFault q s ≡ 0) where
   operators-ok : (i : ℕ) → i < operatorCount s → operatorFault q s (place s i) ≡ 0
-  unfolding fileFault
+  unfolding planFileFault
   operators-ok =
       first-each (λ (i : ℕ). operatorFault q s (place s i)) (operatorCount s) (first-append-l _ _ (first-tail _ _ (first-tail _ _ ok)))
 
   pub some-operator : 0 < operatorCount s
-  unfolding fileFault
+  unfolding planFileFault
   some-operator =
       let some : (operatorCount s ≡ 0 → ⊥) = eqb-false _ 0 (refuse-zero 13 _ (first-head _ _ (first-tail _ _ ok))) in omega arith
 
@@ -78,7 +79,7 @@ module _ (q : Query) (s : List ℕ) (ok : fileFault q s ≡ 0) where
       ∙ all-range (λ (i : ℕ). named q (operatorAt s (place s i))) (operatorCount s) (λ i h. operator-named q s (place s i) (operators-ok i h))
 
   pub bits-all : place s (operatorCount s) ≤ bitsIn s
-  unfolding fileFault place
+  unfolding planFileFault place
   bits-all = go (operatorCount s) operators-ok
     where
       go : (k : ℕ) → ((i : ℕ) → i < k → operatorFault q s (place s i) ≡ 0) → place s k ≤ bitsIn s
@@ -92,14 +93,14 @@ module _ (query plan : List ℕ) where
   unfolding checkFault
   check-query bad = first-some _ _ bad
 
-  parts : queryFault query ≡ 0 → checkFault query plan ≡ first (fileFault (queryOf query) plan ∷ rulesFault (queryOf query) [] (operatorsOf plan) ∷ [])
+  parts : queryFault query ≡ 0 → checkFault query plan ≡ first (planFileFault (queryOf query) plan ∷ rulesFault (queryOf query) [] (operatorsOf plan) ∷ [])
   unfolding checkFault
   parts e = first-cons _ _ e ∙ first-one _ ∙ plan-fault (queryOf query) plan
 
-  pub check-file : queryFault query ≡ 0 → (fileFault (queryOf query) plan ≡ 0 → ⊥) → checkFault query plan ≡ fileFault (queryOf query) plan
+  pub check-file : queryFault query ≡ 0 → (planFileFault (queryOf query) plan ≡ 0 → ⊥) → checkFault query plan ≡ planFileFault (queryOf query) plan
   check-file e bad = parts e ∙ first-some _ _ bad
 
-  pub check-rules : queryFault query ≡ 0 → fileFault (queryOf query) plan ≡ 0 → checkFault query plan ≡ rulesFault (queryOf query) [] (operatorsOf plan)
+  pub check-rules : queryFault query ≡ 0 → planFileFault (queryOf query) plan ≡ 0 → checkFault query plan ≡ rulesFault (queryOf query) [] (operatorsOf plan)
   check-rules e f = parts e ∙ first-cons _ _ f ∙ first-one _
 
 -- What an accepted query and plan have: the code's structs of both can be read, and hold the query and the plan (`file-struct`,
@@ -121,7 +122,7 @@ unfolding checkFault
 accepted query plan e =
     let q : queryFault query ≡ 0 = first-head _ _ e in
     let both = sym (parts query plan q) ∙ e in
-    let f : fileFault (queryOf query) plan ≡ 0 = first-head _ _ both in
+    let f : planFileFault (queryOf query) plan ≡ 0 = first-head _ _ both in
     record {
       query-readable = readable query q;
       query-held = holds query q;

@@ -10,7 +10,7 @@ use borrow.Author.Tests.{lt-ltb}
 use Rattle.lists.specs.Lists.{range, all}
 use Rattle.lists.specs.Refusal.{refuse, first}
 use Rattle.query.specs.Query.{Query, touches}
-use Rattle.query.specs.Mask.{inMask}
+use Rattle.query.specs.inner.Mask.{inMask}
 use Rattle.plan.specs.Plan.{extend, join, plus, union}
 use Rattle.plan.specs.Check.{joinable, ruleFault, covered, endFault}
 

@@ -15,8 +15,8 @@ use Rattle.lists.specs.Refusal.{first}
 use Rattle.lists.proofs.Faults.{first-head, first-tail, first-append, refuse-zero, first-some, first-group, first-stop, first-next}
 use Rattle.packed.specs.Field.{bitsIn, bytesFor}
 use Rattle.query.specs.Query.{Query}
-use Rattle.plan.specs.File.{kindAt, operandWidth, place, operatorFault}
-use Rattle.plan.specs.Parts.{endFaults, operatorsFaults}
+use Rattle.plan.specs.File.{kindAt, operandBits, place, operatorFault}
+use Rattle.plan.specs.inner.Parts.{endFaults, operatorsFaults}
 
 -- A file has fewer than b bits exactly where it has fewer bytes than b bits take.
 pub bits-lack : (s : List ℕ) (b : ℕ) → length s < bytesFor b → ltb (bitsIn s) b ≡ true
@@ -26,7 +26,7 @@ pub bits-there : (s : List ℕ) (b : ℕ) → bytesFor b ≤ length s → ltb (b
 bits-there s b h = le-ltb (bitsIn s) b (omega arith)
 
 -- No operand has more than 5 bits.
-pub operand-width-le : (k : ℕ) → operandWidth k ≤ 5
+pub operand-width-le : (k : ℕ) → operandBits k ≤ 5
 operand-width-le k = go (eqb k 0) (eqb k 1)
   where
     go : (a b : Bool) → cond a 5 (cond b 3 0) ≤ 5
@@ -35,7 +35,7 @@ operand-width-le k = go (eqb k 0) (eqb k 1)
     go false false = omega arith
 
 -- Operator i ends where the next begins, and so not past the end of a later one.
-pub place-next : (s : List ℕ) (i : ℕ) → place s (i + 1) ≡ place s i + 2 + operandWidth (kindAt s (place s i))
+pub place-next : (s : List ℕ) (i : ℕ) → place s (i + 1) ≡ place s i + 2 + operandBits (kindAt s (place s i))
 unfolding place
 place-next s i = rw (add-one i)
 
@@ -52,13 +52,13 @@ pub place-long : (s : List ℕ) (k : ℕ) → place s k ≤ bitsIn s → 0 < len
 unfolding place
 place-long s k h = omega (arith, place-mono s 0 k (omega arith))
 
-pub place-end : (s : List ℕ) (i k : ℕ) → i < k → place s i + 2 + operandWidth (kindAt s (place s i)) ≤ place s k
+pub place-end : (s : List ℕ) (i k : ℕ) → i < k → place s i + 2 + operandBits (kindAt s (place s i)) ≤ place s k
 place-end s i k h = rw (← place-next s i) (place-mono s (i + 1) k (omega arith))
 
 -- An operator without fault has all its bits.
-pub operator-there : (q : Query) (s : List ℕ) (at : ℕ) → operatorFault q s at ≡ 0 → at + 2 + operandWidth (kindAt s at) ≤ bitsIn s
+pub operator-there : (q : Query) (s : List ℕ) (at : ℕ) → operatorFault q s at ≡ 0 → at + 2 + operandBits (kindAt s at) ≤ bitsIn s
 operator-there q s at e =
-    ltb-false (bitsIn s) (at + 2 + operandWidth (kindAt s at)) (refuse-zero 11 _ (first-head _ _ (first-tail _ _ (first-tail _ _ e))))
+    ltb-false (bitsIn s) (at + 2 + operandBits (kindAt s at)) (refuse-zero 11 _ (first-head _ _ (first-tail _ _ (first-tail _ _ e))))
 
 -- i operators without fault were passed, and the next one begins at a position.
 pub record Passed (q : Query) (s : List ℕ) (i at : ℕ) : Type 0 where
@@ -72,7 +72,7 @@ module _ (q : Query) (s : List ℕ) where
   unfolding place range first
   passed-none h = record { here = refl; near = omega arith; there = omega arith; sound = refl }
 
-  pub passed-more : (i at next : ℕ) → Passed q s i at → operatorFault q s at ≡ 0 → next ≡ at + 2 + operandWidth (kindAt s at) → Passed q s (i + 1) next
+  pub passed-more : (i at next : ℕ) → Passed q s i at → operatorFault q s at ≡ 0 → next ≡ at + 2 + operandBits (kindAt s at) → Passed q s (i + 1) next
   passed-more i at next p e n =
       record {
         here = rw (place-next s i, ← p .here) n;

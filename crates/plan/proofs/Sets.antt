@@ -15,13 +15,13 @@ use Rattle.lists.proofs.Any.{any-all}
 use Rattle.lists.proofs.All.{getD-all, all-getD}
 use Rattle.graph.specs.Graph.{Edge}
 use Rattle.query.specs.Query.{VertexSet, inside, edgeAt}
-use Rattle.query.specs.Mask.{inMask, MaskOf, only}
-use Rattle.query.specs.Answer.{edgeOf, queryIn, Held}
+use Rattle.query.specs.inner.Mask.{inMask, MaskOf, only}
+use Rattle.query.specs.inner.Struct.{edgeOf, queryIn, Held}
 use Rattle.query.specs.declared.Query.{Query as QueryStruct}
 use Rattle.query.proofs.Structs.{edge-in}
 use Rattle.query.proofs.Masks.{in-or, in-and, mask-all}
 use Rattle.plan.specs.Plan.{scan, extend, plus, union}
-use Rattle.plan.specs.Pile.{named, kept}
+use Rattle.plan.specs.inner.Pile.{named, kept}
 
 -- A mask of both sides' vertices is that of their union.
 pub or-set : (b p : ℕ) → inMask (bitOr b p) ≡ union (inMask b) (inMask p)

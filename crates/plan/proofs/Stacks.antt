@@ -7,7 +7,7 @@ use native.Mathlib.Numerals.{add-one}
 use native.Mathlib.Omega.{arith}
 use lib.ListN.{length, getD, set, drop}
 use lib.Seq.{getD-set-same, getD-set-other}
-use Rattle.plan.specs.Pile.{stack, masksIn}
+use Rattle.plan.specs.inner.Pile.{stack, masksIn}
 use Rattle.plan.specs.declared.rules.Pile.{Pile}
 
 pub length-stack : (d : ℕ) (xs : List ℕ) → length (stack d xs) ≡ d

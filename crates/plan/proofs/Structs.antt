@@ -11,8 +11,9 @@ use Rattle.packed.specs.Field.{bitsIn}
 use Rattle.query.specs.Answer.{padded}
 use Rattle.query.proofs.Images.{padded-step, getD-padded}
 use Rattle.plan.specs.Plan.{Operator}
-use Rattle.plan.specs.File.{operatorCount, kindAt, operandWidth, operandAt, operatorAt, place, operatorsOf}
-use Rattle.plan.specs.Answer.{maxOperators, planStruct, operatorOf, operatorIn, operatorsIn}
+use Rattle.plan.specs.File.{operatorCount, kindAt, operandBits, operandAt, operatorAt, place, operatorsOf}
+use Rattle.plan.specs.inner.Struct.{planStruct, operatorOf, operatorIn, operatorsIn}
+use Rattle.plan.specs.Plan.{maxOperators}
 use Rattle.plan.specs.declared.Plan.{Plan as PlanStruct}
 use Rattle.plan.proofs.Places.{place-next, place-end}
 
@@ -30,11 +31,11 @@ module _ (s : List ℕ) where
 
   -- The next operator's bits are there.
   pub copied-there : {i at : ℕ} {kinds operands : List ℕ} → Copied s i at kinds operands → i < operatorCount s → place s (operatorCount s) ≤ bitsIn s
-      → at + 2 + operandWidth (kindAt s at) ≤ bitsIn s
+      → at + 2 + operandBits (kindAt s at) ≤ bitsIn s
   copied-there {i} {at} c h l = rw (c .here) (le-trans (place-end s i (operatorCount s) h) l)
 
   pub copied-more : {i at next kind operand : ℕ} {kinds operands : List ℕ} → Copied s i at kinds operands → i < maxOperators
-      → kind ≡ kindAt s at → operand ≡ operandAt s at → next ≡ at + 2 + operandWidth (kindAt s at) → next ≤ at + 7
+      → kind ≡ kindAt s at → operand ≡ operandAt s at → next ≡ at + 2 + operandBits (kindAt s at) → next ≤ at + 7
       → Copied s (i + 1) next (set kinds i kind) (set operands i operand)
   copied-more {i} {at} c h k o n l =
       record {

@@ -14,8 +14,8 @@ use Rattle.lists.proofs.All.{all-getD}
 use Rattle.query.specs.Query.{Query, VertexSet}
 use Rattle.plan.specs.Plan.{Operator, join}
 use Rattle.plan.specs.Check.{ruleFault, covered, endFault, rulesFault}
-use Rattle.plan.specs.Answer.{operatorIn, operatorsIn}
-use Rattle.plan.specs.Pile.{named}
+use Rattle.plan.specs.inner.Struct.{operatorIn, operatorsIn}
+use Rattle.plan.specs.inner.Pile.{named}
 use Rattle.plan.specs.declared.Plan.{Plan as PlanStruct}
 use Rattle.plan.proofs.Structs.{operator-in}
 

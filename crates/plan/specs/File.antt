@@ -10,7 +10,7 @@ use Rattle.lists.specs.Refusal.{refuse, first, answered}
 use Rattle.packed.specs.Field.{fieldAt, bitsIn, bytesFor, fillSet}
 use Rattle.query.specs.Query.{Query}
 use Rattle.query.specs.File.{queryOf, queryFault}
-use Rattle.plan.specs.Plan.{Operator, scan, extend, join}
+use Rattle.plan.specs.Plan.{Operator, scan, extend, join, scanKind, extendKind, noKind}
 use Rattle.plan.specs.Check.{rulesFault}
 use Rattle.plan.specs.declared.CheckedPlan.{CheckedPlan}
 
@@ -21,22 +21,22 @@ operatorCount s = fieldAt s 0 5
 abbrev pub kindAt : List ℕ → ℕ → ℕ
 kindAt s at = fieldAt s at 2
 
-abbrev pub operandWidth : ℕ → ℕ
-operandWidth k = cond (eqb k 0) 5 (cond (eqb k 1) 3 0)
+abbrev pub operandBits : ℕ → ℕ
+operandBits k = cond (eqb k scanKind) 5 (cond (eqb k extendKind) 3 0)
 
 abbrev pub operandAt : List ℕ → ℕ → ℕ
-operandAt s at = fieldAt s (at + 2) (operandWidth (kindAt s at))
+operandAt s at = fieldAt s (at + 2) (operandBits (kindAt s at))
 
 abbrev pub operatorAt : List ℕ → ℕ → Operator
 operatorAt s at =
-    cond (eqb (kindAt s at) 0) (scan (operandAt s at)) (cond (eqb (kindAt s at) 1) (extend (operandAt s at)) join)
+    cond (eqb (kindAt s at) scanKind) (scan (operandAt s at)) (cond (eqb (kindAt s at) extendKind) (extend (operandAt s at)) join)
 
 -- Where operator i begins.
 unfoldable pub place : List ℕ → ℕ → ℕ
 place s zero = 5
 place s (suc i) =
     let at = place s i in
-    at + 2 + operandWidth (kindAt s at)
+    at + 2 + operandBits (kindAt s at)
 
 -- The plan that a file holds.
 unfoldable pub operatorsOf : List ℕ → List Operator
@@ -47,10 +47,10 @@ abbrev pub operatorFault : Query → List ℕ → ℕ → ℕ
 operatorFault q s at =
     first
     (refuse 12 (ltb (bitsIn s) (at + 2))
-    ∷ refuse 14 (eqb (kindAt s at) 3)
-    ∷ refuse 12 (ltb (bitsIn s) (at + 2 + operandWidth (kindAt s at)))
-    ∷ refuse 14 (eqb (kindAt s at) 0 && not (ltb (operandAt s at) (length (q .edges))))
-    ∷ refuse 14 (eqb (kindAt s at) 1 && not (ltb (operandAt s at) (q .vertices)))
+    ∷ refuse 14 (eqb (kindAt s at) noKind)
+    ∷ refuse 12 (ltb (bitsIn s) (at + 2 + operandBits (kindAt s at)))
+    ∷ refuse 14 (eqb (kindAt s at) scanKind && not (ltb (operandAt s at) (length (q .edges))))
+    ∷ refuse 14 (eqb (kindAt s at) extendKind && not (ltb (operandAt s at) (q .vertices)))
     ∷ [])
 
 -- 'Field by field, 12 .., 14 count 0, ..; 13 a further byte or a fill bit set; then by operator', for a query that was read.

@@ -2,6 +2,4 @@
 pub mod Plan
 pub mod Check
 pub mod File
-pub mod Parts
-pub mod Answer
-pub mod Pile
+pub mod inner

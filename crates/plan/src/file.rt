@@ -8,9 +8,9 @@ ghost use Prim.Native.Nat.{_+_, _^_, _≤_, _<_};
 ghost use lib.ListN.{length};
 ghost use Rattle.lists.specs.Refusal.{first};
 ghost use Rattle.packed.specs.Field.{bitsIn, bytesFor};
-ghost use Rattle.plan.specs.File.{operatorCount, kindAt, operandWidth, operandAt, operatorFault};
-ghost use Rattle.plan.specs.Answer.{maxOperators};
-ghost use Rattle.plan.specs.Parts.{ofSize, operandFault, endFaults, operatorsFaults, fileFault};
+ghost use Rattle.plan.specs.File.{operatorCount, kindAt, operandBits, operandAt, operatorFault};
+ghost use Rattle.plan.specs.Plan.{maxOperators};
+ghost use Rattle.plan.specs.inner.Parts.{ofSize, operandFault, endFaults, operatorsFaults, planFileFault};
 
 pub fn operator_count(file: &[u8]) -> usize
     requires { ⌜ 0 < length (now file) ⌝ }
@@ -21,7 +21,7 @@ pub fn operator_count(file: &[u8]) -> usize
 
 // The bits of the operand that follows a kind.
 fn operand_width(kind: u32) -> usize
-    ensures { λ r. ⌜ r ≡ operandWidth kind ⌝ }
+    ensures { λ r. ⌜ r ≡ operandBits kind ⌝ }
 {
     if kind == Plan::SCAN {
         return 5;
@@ -35,7 +35,7 @@ fn operand_width(kind: u32) -> usize
 // The bit position past the operator at a position.
 pub fn next_place(file: &[u8], at: usize) -> usize
     requires { ⌜ (at < 2 ^ 32) × (at + 2 ≤ bitsIn (now file)) ⌝ }
-    ensures is { λ r. ⌜ r ≡ at + 2 + operandWidth (kindAt (now (file .entry)) at) ⌝ }
+    ensures is { λ r. ⌜ r ≡ at + 2 + operandBits (kindAt (now (file .entry)) at) ⌝ }
     ensures near { λ r. ⌜ r ≤ at + 7 ⌝ }
 {
     at + 2 + operand_width(field(file, at, 2))
@@ -43,7 +43,7 @@ pub fn next_place(file: &[u8], at: usize) -> usize
 
 // The operand of the operator at a position.
 pub fn operand(file: &[u8], at: usize) -> u32
-    requires { ⌜ (at < 2 ^ 32) × (at + 2 + operandWidth (kindAt (now file) at) ≤ bitsIn (now file)) ⌝ }
+    requires { ⌜ (at < 2 ^ 32) × (at + 2 + operandBits (kindAt (now file) at) ≤ bitsIn (now file)) ⌝ }
     ensures { λ r. ⌜ r ≡ operandAt (now (file .entry)) at ⌝ }
 {
     field(file, at + 2, operand_width(field(file, at, 2)))
@@ -77,7 +77,7 @@ fn operator_fault(file: &[u8], at: usize, n: usize, m: usize) -> u32
         return 12;
     }
     let kind = field(file, at, 2);
-    if kind == 3 {
+    if kind == Plan::NO_KIND {
         return 14;
     }
     if file.len() < bytes_for(next_place(file, at)) {
@@ -120,7 +120,7 @@ fn operators_fault(file: &[u8], count: usize, n: usize, m: usize) -> u32
 
 // The faults 12, 13, 14 of a plan file, for a query of n vertices and m edges; or 0.
 pub fn file_fault(file: &[u8], n: usize, m: usize) -> u32
-    ensures { λ r. ⌜ r ≡ fileFault (ofSize n m) (now (file .entry)) ⌝ }
+    ensures { λ r. ⌜ r ≡ planFileFault (ofSize n m) (now (file .entry)) ⌝ }
 {
     if file.len() < 1 {
         return 12;

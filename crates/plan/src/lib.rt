@@ -4,7 +4,8 @@ ghost use mathlib.Core.Path.{_≡_};
 ghost use Prim.Native.Nat.{_≤_, _<_};
 ghost use Rattle.packed.specs.Field.{bitsIn};
 ghost use Rattle.plan.specs.File.{operatorCount, place, checkFault, checkAnswer};
-ghost use Rattle.plan.specs.Answer.{maxOperators, operatorIs, planStruct, operatorIn};
+ghost use Rattle.plan.specs.inner.Struct.{operatorIs, planStruct, operatorIn};
+ghost use Rattle.plan.specs.Plan.{maxOperators};
 
 mod file;
 mod rules;
@@ -36,6 +37,8 @@ impl Plan {
     pub const SCAN: u32 = 0;
 
     pub const EXTEND: u32 = 1;
+    // No operator is of this kind.
+    pub const NO_KIND: u32 = 3;
 
     // The plan of a file that has all its bits. `at` is the place of operator i.
     pub fn of_file(file: &[u8]) -> Self

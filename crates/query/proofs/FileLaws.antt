@@ -15,8 +15,9 @@ use Rattle.packed.specs.Field.{fieldAt, bitsIn, bytesFor}
 use Rattle.packed.proofs.Laws.{field-add, field-lt}
 use Rattle.query.specs.Query.{connected}
 use Rattle.query.specs.File.{vertexCount, edgeCount, edgeStart, edgeIn, queryOf, outsideLimits, key, edgeFault, queryFault}
-use Rattle.query.specs.Parts.{sizeFault, edgeFrom, keyFault, edgesFault, fileFault, Readable}
-use Rattle.query.specs.Answer.{structOf, Held}
+use Rattle.query.specs.inner.Parts.{sizeFault, edgeFrom, keyFault, queryEdgesFault, queryFileFault, Readable}
+use Rattle.query.specs.Answer.{structOf}
+use Rattle.query.specs.inner.Struct.{Held}
 use Rattle.query.proofs.Structs.{held}
 
 -- The three fields of an edge, read as one, are its key.
@@ -59,17 +60,17 @@ module _ (s : List ℕ) (n at i : ℕ) (count : n ≡ vertexCount s) (place : at
   least-next k e = rw (add-one i) (ap (λ (j : ℕ). j + 1) (e ∙ ap key edge-here))
 
 -- The faults of the first edges: one edge more, and the first edge at fault.
-pub edges-next : (s : List ℕ) (i : ℕ) → edgesFault s i ≡ 0 → edgeFault s i ≡ 0 → edgesFault s (i + 1) ≡ 0
-unfolding edgesFault
+pub edges-next : (s : List ℕ) (i : ℕ) → queryEdgesFault s i ≡ 0 → edgeFault s i ≡ 0 → queryEdgesFault s (i + 1) ≡ 0
+unfolding queryEdgesFault
 edges-next s i = first-next (edgeFault s) i
 
-pub edges-stop : (s : List ℕ) (m i : ℕ) → i < m → edgesFault s i ≡ 0 → (edgeFault s i ≡ 0 → ⊥) → edgesFault s m ≡ edgeFault s i
-unfolding edgesFault
+pub edges-stop : (s : List ℕ) (m i : ℕ) → i < m → queryEdgesFault s i ≡ 0 → (edgeFault s i ≡ 0 → ⊥) → queryEdgesFault s m ≡ edgeFault s i
+unfolding queryEdgesFault
 edges-stop s m i = first-stop (edgeFault s) m i
 
 -- Read query's refusal: the first fault of the file, then 11.
-query-parts : (s : List ℕ) → queryFault s ≡ first (fileFault s ∷ refuse 11 (not (connected (queryOf s))) ∷ [])
-unfolding queryFault fileFault edgesFault
+query-parts : (s : List ℕ) → queryFault s ≡ first (queryFileFault s ∷ refuse 11 (not (connected (queryOf s))) ∷ [])
+unfolding queryFault queryFileFault queryEdgesFault
 query-parts s = regroup _ _ _ _ _ _ (map (edgeFault s) (range (edgeCount s)))
   where
     regroup : (a b c d e f : ℕ) (es : List ℕ)
@@ -78,52 +79,52 @@ query-parts s = regroup _ _ _ _ _ _ (map (edgeFault s) (range (edgeCount s)))
         first-after a _ _ (first-after b _ _ (first-group (c ∷ d ∷ e ∷ []) (es ++ (f ∷ [])) ∙ first-after (first (c ∷ d ∷ e ∷ [])) _ _ (first-group es (f ∷ []))))
         ∙ first-group (a ∷ b ∷ first (c ∷ d ∷ e ∷ []) ∷ first es ∷ []) (f ∷ [])
 
-pub query-first : (s : List ℕ) → (fileFault s ≡ 0 → ⊥) → queryFault s ≡ fileFault s
-query-first s d = query-parts s ∙ first-some (fileFault s) _ d
+pub query-first : (s : List ℕ) → (queryFileFault s ≡ 0 → ⊥) → queryFault s ≡ queryFileFault s
+query-first s d = query-parts s ∙ first-some (queryFileFault s) _ d
 
-pub query-last : (s : List ℕ) → fileFault s ≡ 0 → queryFault s ≡ refuse 11 (not (connected (queryOf s)))
-query-last s e = query-parts s ∙ first-cons (fileFault s) _ e ∙ first-one (refuse 11 (not (connected (queryOf s))))
+pub query-last : (s : List ℕ) → queryFileFault s ≡ 0 → queryFault s ≡ refuse 11 (not (connected (queryOf s)))
+query-last s e = query-parts s ∙ first-cons (queryFileFault s) _ e ∙ first-one (refuse 11 (not (connected (queryOf s))))
 
 -- The faults of a file of two bytes or more, one after the other: 8, then 6 and 7, then 9 and 10.
 module _ (s : List ℕ) where
-  pub short-first : length s < 2 → fileFault s ≡ 6
-  unfolding fileFault first
+  pub short-first : length s < 2 → queryFileFault s ≡ 6
+  unfolding queryFileFault first
   short-first h = rw (lt-ltb (length s) 2 h) refl
 
   module _ (long : 2 ≤ length s) where
-    after-short : fileFault s ≡ first (refuse 8 (outsideLimits s) ∷ sizeFault s (edgeStart s (edgeCount s)) ∷ edgesFault s (edgeCount s) ∷ [])
-    unfolding fileFault
+    after-short : queryFileFault s ≡ first (refuse 8 (outsideLimits s) ∷ sizeFault s (edgeStart s (edgeCount s)) ∷ queryEdgesFault s (edgeCount s) ∷ [])
+    unfolding queryFileFault
     after-short = first-cons (refuse 6 (ltb (length s) 2)) _ (zero-refuse 6 (ltb (length s) 2) (le-ltb (length s) 2 long))
 
-    pub limits-first : (refuse 8 (outsideLimits s) ≡ 0 → ⊥) → fileFault s ≡ refuse 8 (outsideLimits s)
+    pub limits-first : (refuse 8 (outsideLimits s) ≡ 0 → ⊥) → queryFileFault s ≡ refuse 8 (outsideLimits s)
     limits-first d = after-short ∙ first-some (refuse 8 (outsideLimits s)) _ d
 
     module _ (within : outsideLimits s ≡ false) where
-      after-limits : fileFault s ≡ first (sizeFault s (edgeStart s (edgeCount s)) ∷ edgesFault s (edgeCount s) ∷ [])
+      after-limits : queryFileFault s ≡ first (sizeFault s (edgeStart s (edgeCount s)) ∷ queryEdgesFault s (edgeCount s) ∷ [])
       after-limits = after-short ∙ first-cons (refuse 8 (outsideLimits s)) _ (zero-refuse 8 (outsideLimits s) within)
 
-      pub size-first : (sizeFault s (edgeStart s (edgeCount s)) ≡ 0 → ⊥) → fileFault s ≡ sizeFault s (edgeStart s (edgeCount s))
+      pub size-first : (sizeFault s (edgeStart s (edgeCount s)) ≡ 0 → ⊥) → queryFileFault s ≡ sizeFault s (edgeStart s (edgeCount s))
       size-first d = after-limits ∙ first-some (sizeFault s (edgeStart s (edgeCount s))) _ d
 
-      pub edges-last : sizeFault s (edgeStart s (edgeCount s)) ≡ 0 → fileFault s ≡ edgesFault s (edgeCount s)
-      edges-last e = after-limits ∙ first-cons (sizeFault s (edgeStart s (edgeCount s))) _ e ∙ first-one (edgesFault s (edgeCount s))
+      pub edges-last : sizeFault s (edgeStart s (edgeCount s)) ≡ 0 → queryFileFault s ≡ queryEdgesFault s (edgeCount s)
+      edges-last e = after-limits ∙ first-cons (sizeFault s (edgeStart s (edgeCount s))) _ e ∙ first-one (queryEdgesFault s (edgeCount s))
 
   -- A file of the size that its bits ask for has them.
   pub size-bits : (b : ℕ) → sizeFault s b ≡ 0 → b ≤ bitsIn s
   size-bits b e = let long : bytesFor b ≤ length s = ltb-false _ _ (refuse-zero 5 _ (first-head _ _ e)) in omega arith
 
 -- A file without a fault is readable.
-pub file-readable : (s : List ℕ) → fileFault s ≡ 0 → Readable s
-unfolding fileFault
+pub file-readable : (s : List ℕ) → queryFileFault s ≡ 0 → Readable s
+unfolding queryFileFault
 file-readable s e =
-    let rest : first (refuse 8 (outsideLimits s) ∷ sizeFault s (edgeStart s (edgeCount s)) ∷ edgesFault s (edgeCount s) ∷ []) ≡ 0 = first-tail _ _ e in
+    let rest : first (refuse 8 (outsideLimits s) ∷ sizeFault s (edgeStart s (edgeCount s)) ∷ queryEdgesFault s (edgeCount s) ∷ []) ≡ 0 = first-tail _ _ e in
     record {
       limits = refuse-zero 7 _ (first-head _ _ rest);
       bits = size-bits s (edgeStart s (edgeCount s)) (first-head _ _ (first-tail _ _ rest));
     }
 
 pub query-readable : (s : List ℕ) → queryFault s ≡ 0 → Readable s
-query-readable s e = file-readable s (first-head (fileFault s) _ (sym (query-parts s) ∙ e))
+query-readable s e = file-readable s (first-head (queryFileFault s) _ (sym (query-parts s) ∙ e))
 
 -- An accepted file's query is one that the code's functions take.
 pub query-held : (s : List ℕ) → queryFault s ≡ 0 → Held (structOf (queryOf s))

@@ -10,7 +10,7 @@ use Rattle.lists.specs.Refusal.{refuse, first}
 use Rattle.packed.specs.Field.{bitAt, fieldAt, fillSet}
 use Rattle.query.specs.Query.{reached, connected}
 use Rattle.query.specs.File.{vertexCount, edgeCount, queryOf, outsideLimits, queryFault}
-use Rattle.query.specs.Parts.{fileFault}
+use Rattle.query.specs.inner.Parts.{queryFileFault}
 use Rattle.query.proofs.FileLaws.{limits-first, query-first}
 
 -- 8 vertices, each with an edge of label 1 to the next three around: 24 edges.
@@ -25,7 +25,7 @@ largest-read = refl
 outside : (s : List ℕ) → 2 ≤ length s → outsideLimits s ≡ true → queryFault s ≡ 8
 outside s h e =
     let eight : refuse 8 (outsideLimits s) ≡ 8 = ap (refuse 8) e in
-    let file : fileFault s ≡ 8 = limits-first s h (λ z. eqb-false 8 0 refl (sym eight ∙ z)) ∙ eight in
+    let file : queryFileFault s ≡ 8 = limits-first s h (λ z. eqb-false 8 0 refl (sym eight ∙ z)) ∙ eight in
     query-first s (λ z. eqb-false 8 0 refl (sym file ∙ z)) ∙ file
 
 pub one-vertex : (s : List ℕ) → 2 ≤ length s → vertexCount s ≡ 1 → queryFault s ≡ 8

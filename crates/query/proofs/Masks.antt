@@ -13,7 +13,7 @@ use Rattle.lists.specs.Lists.{bit, range, all}
 use Rattle.lists.proofs.Tests.{clash, iff, fails, and-l, and-r, not-true, not-false}
 use Rattle.lists.proofs.All.{all-at, all-range}
 use Rattle.query.specs.Query.{VertexSet}
-use Rattle.query.specs.Mask.{inMask, MaskOf, only}
+use Rattle.query.specs.inner.Mask.{inMask, MaskOf, only}
 
 -- The digit of a vertex, as the code reads it, and a shifted 1, as it makes one.
 pub in-digit : (m w : ℕ) → m / 2 ^ w % 2 ≡ bit (inMask m w)

@@ -17,8 +17,9 @@ use Rattle.packed.proofs.Laws.{field-lt}
 use Rattle.graph.specs.Graph.{Edge}
 use Rattle.query.specs.Query.{Query, edgeAt}
 use Rattle.query.specs.File.{minVertices, maxVertices, minEdges, maxEdges, vertexCount, edgeCount, edgeStart, edgeIn, queryOf, outsideLimits}
-use Rattle.query.specs.Parts.{labelIn, edgeField}
-use Rattle.query.specs.Answer.{padded, edgeStruct, asEdge, structOf, edgeOf, queryIn, Held}
+use Rattle.query.specs.inner.Parts.{labelIn, edgeField}
+use Rattle.query.specs.Answer.{padded, structOf}
+use Rattle.query.specs.inner.Struct.{edgeStruct, asEdge, edgeOf, queryIn, Held}
 use Rattle.query.specs.declared.Edge.{Edge as EdgeStruct}
 use Rattle.query.specs.declared.Query.{Query as QueryStruct}
 use Rattle.query.proofs.Images.{getD-padded, take-padded}

@@ -13,8 +13,8 @@ use Rattle.lists.proofs.Tests.{clash, fails, and-l, and-r, and-both, or-intro-l
 use Rattle.lists.proofs.Any.{any-suc, any-follows}
 use Rattle.graph.specs.Graph.{Edge}
 use Rattle.query.specs.Query.{Query, VertexSet, between, touches}
-use Rattle.query.specs.Mask.{inMask, MaskOf, only, neighbours}
-use Rattle.query.specs.Answer.{edgeOf, queryIn}
+use Rattle.query.specs.inner.Mask.{inMask, MaskOf, only, neighbours}
+use Rattle.query.specs.inner.Struct.{edgeOf, queryIn}
 use Rattle.query.specs.declared.Query.{Query as QueryStruct}
 use Rattle.query.proofs.Masks.{in-or, in-and, in-none, mask-empty}
 

@@ -8,7 +8,7 @@ use lib.ListN.{length}
 use Rattle.lists.specs.Lists.{range}
 use Rattle.lists.specs.Refusal.{refuse, first}
 use Rattle.packed.specs.Field.{fieldAt, bytesFor, fillSet}
-use Rattle.graph.specs.Graph.{Edge}
+use Rattle.graph.specs.Graph.{Edge, maxEdgeLabel}
 use Rattle.query.specs.Query.{Query, connected}
 
 abbrev pub minVertices : ℕ
@@ -37,8 +37,8 @@ abbrev pub edgeIn : List ℕ → ℕ → Edge
 edgeIn s i =
     record {
       source = fieldAt s (edgeStart s i) 3;
-      label = fieldAt s (edgeStart s i + 6) 8;
       target = fieldAt s (edgeStart s i + 3) 3;
+      label = fieldAt s (edgeStart s i + 6) 8;
     }
 
 -- The query that a file holds.
@@ -65,7 +65,7 @@ badEdge n e = not (ltb (e .source) n && ltb (e .target) n) || eqb (e .source) (e
 
 -- (from, to, label) as one number.
 abbrev pub key : Edge → ℕ
-key e = (e .source * 8 + e .target) * 256 + e .label
+key e = (e .source * maxVertices + e .target) * suc maxEdgeLabel + e .label
 
 -- Edges i - 1 and i ascend strictly; there is none before the first.
 abbrev pub ascends : List ℕ → ℕ → Bool

@@ -1,6 +1,5 @@
 -- The query: a pattern, its file, the faults for which Read query refuses one, and what it answers.
 pub mod Query
 pub mod File
-pub mod Mask
-pub mod Parts
 pub mod Answer
+pub mod inner

@@ -47,12 +47,9 @@ reached q (suc k) =
     let seen = reached q k in
     keep (λ (w : ℕ). among seen w || touches q w (among seen)) (range (q .vertices))
 
--- An edge of a query of n vertices that was read: both ends below n, and not equal; and a label of a byte.
+-- An edge of a query of n vertices that was read: both ends below n, and not equal.
 abbrev pub properEdge : ℕ → Edge → Bool
 properEdge n e = ltb (e .source) n && ltb (e .target) n && not (eqb (e .source) (e .target))
-
-abbrev pub byteLabel : Edge → Bool
-byteLabel e = ltb (e .label) 256
 
 -- 'Ignoring direction, the query is connected.'
 unfoldable pub connected : Query → Bool

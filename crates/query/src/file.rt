@@ -10,7 +10,7 @@ ghost use lib.ListN.{length};
 ghost use Rattle.lists.specs.Lists.{range};
 ghost use Rattle.packed.specs.Field.{bitsIn};
 ghost use Rattle.query.specs.File.{maxVertices, maxEdges, vertexCount, edgeCount, edgeStart, key};
-ghost use Rattle.query.specs.Parts.{labelIn, edgeField, limitsFault, sizeFault, edgeFrom, keyFault, edgesFault, fileFault};
+ghost use Rattle.query.specs.inner.Parts.{labelIn, edgeField, limitsFault, sizeFault, edgeFrom, keyFault, queryEdgesFault, queryFileFault};
 ghost use Rattle.query.specs.Answer.{padded};
 
 pub fn vertex_count(file: &[u8]) -> usize
@@ -109,7 +109,7 @@ fn edge_fault(file: &[u8], at: usize, n: usize, least: u32) -> u32
 // 9 or 10 of the first edge at fault, else 0. `least` is one more than the last edge's key.
 fn edges_fault(file: &[u8], n: usize, m: usize) -> u32
     requires { ⌜ (n ≡ vertexCount (now file)) × (n ≤ maxVertices) × (m ≤ maxEdges) × (edgeStart (now file) m ≤ bitsIn (now file)) ⌝ }
-    ensures { λ r. ⌜ r ≡ edgesFault (now (file .entry)) m ⌝ }
+    ensures { λ r. ⌜ r ≡ queryEdgesFault (now (file .entry)) m ⌝ }
 {
     let mut least = 0;
     let mut i = 0;
@@ -127,7 +127,7 @@ fn edges_fault(file: &[u8], n: usize, m: usize) -> u32
 
 // The first fault of a query file but 11, or 0.
 pub fn file_fault(file: &[u8]) -> u32
-    ensures { λ r. ⌜ r ≡ fileFault (now (file .entry)) ⌝ }
+    ensures { λ r. ⌜ r ≡ queryFileFault (now (file .entry)) ⌝ }
 {
     if file.len() < 2 {
         return 6;

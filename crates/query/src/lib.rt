@@ -6,9 +6,10 @@ ghost use Prim.Native.Nat.{ℕ, _≤_, _<_};
 ghost use Rattle.lists.specs.Refusal.{refuse};
 ghost use Rattle.query.specs.Query.{edgeAt, among, between, reached, connected};
 ghost use Rattle.query.specs.File.{maxEdges, queryOf, queryFault};
-ghost use Rattle.query.specs.Parts.{Readable};
-ghost use Rattle.query.specs.Answer.{edgeStruct, asEdge, structOf, queryIn, Held, noQuery, readAnswer};
-ghost use Rattle.query.specs.Mask.{inMask, MaskOf, only, neighbours, grown};
+ghost use Rattle.query.specs.inner.Parts.{Readable};
+ghost use Rattle.query.specs.Answer.{structOf, noQuery, readAnswer};
+ghost use Rattle.query.specs.inner.Struct.{edgeStruct, asEdge, queryIn, Held};
+ghost use Rattle.query.specs.inner.Mask.{inMask, MaskOf, only, neighbours, withNeighbours};
 
 mod file;
 pub mod set;
@@ -109,7 +110,7 @@ impl Query {
     // The vertices of a set with those that an edge joins to it: one step of reaching.
     fn reach(self, set: u32) -> u32
         requires { ⌜ Held self ⌝ }
-        ensures { λ r. ⌜ MaskOf r (grown (queryIn self) (inMask set) (self .vertices)) ⌝ }
+        ensures { λ r. ⌜ MaskOf r (withNeighbours (queryIn self) (inMask set) (self .vertices)) ⌝ }
     {
         let mut next = set;
         let mut w = 0;

@@ -4,7 +4,7 @@ ghost use mathlib.Core.Bool.{not, _&&_};
 ghost use Prim.Native.Nat.{ℕ, _<_};
 ghost use lib.Dec.{ltb};
 ghost use Rattle.lists.specs.Lists.{bit};
-ghost use Rattle.query.specs.Mask.{inMask, MaskOf, only};
+ghost use Rattle.query.specs.inner.Mask.{inMask, MaskOf, only};
 
 // 1 where the vertex is in the set, else 0.
 pub fn member(set: u32, w: usize) -> u32

@@ -1,2 +1,2 @@
--- Rows in the code: where a packed row's columns lie in another, and the eight words that a row is opened into.
-pub mod Opened
+-- No public contract cites a definition of this crate: all are of inner functions.
+pub mod inner

@@ -17,9 +17,10 @@ use Rattle.query.specs.Query.{Query}
 use Rattle.query.specs.File.{queryOf}
 use Rattle.plan.specs.Plan.{Operator}
 use Rattle.plan.specs.File.{operatorsOf, checkFault}
-use Rattle.run.specs.Run.{RunAnswer, counted, planRows, planNeed, runFault, runAnswer, runList, runScratch}
-use Rattle.run.specs.Ran.{Ran}
-use Rattle.run.specs.Answered.{lengthFault, Answered}
+use Rattle.execution.specs.declared.RunAnswer.{RunAnswer}
+use Rattle.execution.specs.Run.{counted, planRows, planNeed, runFault, runAnswer, runList, runScratch}
+use Rattle.run.specs.inner.Ran.{Ran}
+use Rattle.run.specs.inner.Answered.{roomFault, Answered}
 use Rattle.run.specs.declared.pile.Pile.{Pile}
 
 module _ (cache : Bool) (g : Graph) (q : Query) (os : List Operator) (s t list : List ℕ) (p : Pile) (ran : Ran cache g q os s t p) (short : length s ≤ 1073741824) where
@@ -93,7 +94,7 @@ module _ (cache : Bool) (store query plan : List ℕ) (scratch : ℕ) (list : Li
   fault-store checked bad = first-cons _ _ checked ∙ first-some _ _ bad
 
   fault-lengths : checkFault query plan ≡ 0 → storeFault store ≡ 0
-      → runFault cache store query plan scratch (length list) ≡ lengthFault cache (graphIn store) (queryOf query) (operatorsOf plan) scratch (length list)
+      → runFault cache store query plan scratch (length list) ≡ roomFault cache (graphIn store) (queryOf query) (operatorsOf plan) scratch (length list)
   unfolding runFault
   fault-lengths checked good = first-cons _ _ checked ∙ first-cons _ _ good
 

@@ -1,9 +1,4 @@
 -- The whole run of an accepted plan lists every match once.
-pub mod Whole
-pub mod Accepted
-pub mod Listed
-pub mod Demand
-pub mod Pairs
 pub mod Laid
 pub mod Turns
 pub mod Bounds

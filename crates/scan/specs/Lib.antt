@@ -1,2 +1,2 @@
--- Scan, source by source.
-pub mod Sources
+-- No public contract cites a definition of this crate: all are of inner functions.
+pub mod inner

@@ -16,7 +16,7 @@ use Rattle.lists.proofs.Count.{count-le, count-passes}
 use Rattle.lists.proofs.Sort.{ascends-tail}
 use Rattle.lists.proofs.Ascending.{ascending-above, ascending-rest}
 use Rattle.lists.proofs.Any.{any-fails}
-use Rattle.search.specs.Search.{below}
+use Rattle.search.specs.inner.Search.{below}
 
 pub below-le : (x : ℕ) (s : List ℕ) → below x s ≤ length s
 unfolding below

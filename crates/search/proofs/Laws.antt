@@ -13,7 +13,7 @@ use Rattle.lists.specs.Lists.{any, keep, ascending}
 use Rattle.lists.proofs.Tests.{iff, fails, and-l, and-r, and-both}
 use Rattle.lists.proofs.All.{keep-keep}
 use Rattle.lists.proofs.Ascending.{ascending-drop, ascending-part}
-use Rattle.search.specs.Search.{below, firstFrom}
+use Rattle.search.specs.inner.Search.{below, firstFrom}
 use Rattle.search.proofs.Below.{below-le, below-past, below-upto, take-below, drop-below, any-below}
 
 -- It is an index from `from` on, or the length.

@@ -10,7 +10,7 @@ use borrow.Author.Tests.{ltb-true}
 use Rattle.lists.specs.Lists.{any, ascending}
 use Rattle.lists.proofs.Tests.{and-l}
 use Rattle.lists.proofs.Ascending.{ascending-later}
-use Rattle.search.specs.Search.{firstFrom, placeOf}
+use Rattle.search.specs.inner.Search.{firstFrom, placeOf}
 use Rattle.search.proofs.Laws.{first-is, first-any, first-found, first-absent}
 
 module _ (s : List ℕ) (x : ℕ) where

@@ -1,2 +1,2 @@
--- Where a word stands in an ascending list of words.
-pub mod Search
+-- No public contract cites a definition of this crate: all are of inner functions.
+pub mod inner

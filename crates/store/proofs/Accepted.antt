@@ -10,12 +10,13 @@ use borrow.Author.Tests.{ltb-true, lt-ltb}
 use Rattle.lists.specs.Lists.{ascending}
 use Rattle.lists.proofs.Count.{count-le, count-mono}
 use Rattle.graph.specs.Graph.{Edge, Graph, Direction, forward, backward, near}
-use Rattle.graph.specs.Store.{storeOf, storeSize, sideAt, usedWords, graphIn, storeFault}
+use Rattle.graph.specs.Store.{storeOf, storeSize, usedWords, graphIn, storeFault}
+use Rattle.graph.specs.inner.Side.{sideAt}
 use Rattle.graph.proofs.WellFormed.{WellFormed, fitting, well-formed}
 use Rattle.graph.proofs.Parts.{offset, sideStart, length-store, store-offset}
 use Rattle.graph.proofs.Loads.{store-formed}
-use Rattle.store.specs.Side.{listOn, Within, verticesIn, edgesIn, sideIn, Lookup}
-use Rattle.store.specs.Portion.{listOf}
+use Rattle.store.specs.inner.Side.{listOn, Within, verticesIn, edgesIn, sideIn, Lookup}
+use Rattle.store.specs.inner.Portion.{listOf}
 use Rattle.store.proofs.Listed.{store-list, list-ascends}
 
 -- A side of a store ends within its words.

@@ -16,7 +16,7 @@ use Rattle.lists.proofs.All.{keep-keep, keep-ext}
 use Rattle.lists.proofs.Count.{length-keep}
 use Rattle.lists.proofs.Cut.{cut}
 use Rattle.graph.specs.Graph.{covers}
-use Rattle.search.specs.Search.{below, firstFrom}
+use Rattle.search.specs.inner.Search.{below, firstFrom}
 use Rattle.search.proofs.Laws.{first-length, below-first, above-first}
 
 pub first-fits : (s : List ℕ) (x : ℕ) {r : ℕ} → r ≡ firstFrom s 0 x → r ≤ length s

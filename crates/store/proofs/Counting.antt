@@ -9,8 +9,8 @@ use borrow.Author.Tests.{ltb-true, lt-ltb, leb-true, le-leb}
 use Rattle.lists.proofs.Tests.{and-l, and-r, fails}
 use Rattle.graph.specs.Graph.{forward, backward}
 use Rattle.graph.specs.Store.{usedWords}
-use Rattle.store.specs.Side.{verticesIn, edgesIn, sideIn}
-use Rattle.store.specs.Check.{unless, countsFit, Counted}
+use Rattle.store.specs.inner.Side.{verticesIn, edgesIn, sideIn}
+use Rattle.store.specs.inner.Check.{unless, countsFit, Counted}
 use Rattle.store.proofs.Accepted.{side-ends}
 use Rattle.store.proofs.Loops.{refused, answer-passes}
 

@@ -11,8 +11,8 @@ use Rattle.lists.specs.Lists.{all, ascendsFrom, ascending}
 use Rattle.lists.proofs.Tests.{and-l, and-r, and-both}
 use Rattle.lists.proofs.All.{all-at, all-and}
 use Rattle.lists.proofs.Sort.{ascends-tail, ascends-above}
-use Rattle.store.specs.Side.{listOn}
-use Rattle.store.specs.Check.{listFits, offsetsFit, offsetsOn, sideFits, sideGood, GoodSide}
+use Rattle.store.specs.inner.Side.{listOn}
+use Rattle.store.specs.inner.Check.{listFits, offsetsFit, offsetsOn, sideFits, sideGood, GoodSide}
 use Rattle.store.proofs.Offsets.{offsets-rising, offsets-within}
 
 ruleset conj = (and-l, and-r)

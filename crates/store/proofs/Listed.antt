@@ -18,7 +18,7 @@ use Rattle.graph.specs.Store.{storeOf}
 use Rattle.graph.proofs.WellFormed.{WellFormed, Fitting, fitting, fitting-edge, edge-fitting}
 use Rattle.graph.proofs.Keys.{entry-fits, far-in}
 use Rattle.graph.proofs.VertexLists.{listAt, vertex-ascends, vertex-count}
-use Rattle.store.specs.Portion.{listOf}
+use Rattle.store.specs.inner.Portion.{listOf}
 
 -- Counting and testing in a list is counting and testing over the vertex's edges.
 pub list-count : (p : ℕ → Bool) (d : Direction) (g : Graph) (x : ℕ)

@@ -14,10 +14,10 @@ use Rattle.lists.specs.Lists.{bit, range, all, any, ascendsFrom, ascending}
 use Rattle.lists.proofs.Tests.{clash, fails, and-l, and-r, and-both, eqb-sym}
 use Rattle.lists.proofs.All.{all-at, all-and, all-append, all-getD}
 use Rattle.lists.proofs.Bits.{bit-none, bit-some}
-use Rattle.search.specs.Search.{placeOf}
+use Rattle.search.specs.inner.Search.{placeOf}
 use Rattle.search.proofs.Places.{place-none, place-some}
-use Rattle.store.specs.Side.{listOn}
-use Rattle.store.specs.Check.{unless, member, risesTo, offsetsFit, entryFits, listFits, sideFits, listMirrored, sideMirrored}
+use Rattle.store.specs.inner.Side.{listOn}
+use Rattle.store.specs.inner.Check.{unless, member, risesTo, offsetsFit, entryFits, listFits, sideFits, listMirrored, sideMirrored}
 
 -- ---- refusals
 

@@ -13,7 +13,7 @@ use Rattle.lists.proofs.Count.{count-keep, count-range-one}
 use Rattle.lists.proofs.Any.{any-count}
 use Rattle.lists.proofs.Pigeonhole.{pigeonhole}
 use Rattle.lists.proofs.Sort.{count-sort, ascending-once, ascending-same}
-use Rattle.store.specs.Check.{member}
+use Rattle.store.specs.inner.Check.{member}
 
 -- The members of the numbers below n that pass a test.
 pub member-range : (p : ℕ → Bool) (n k : ℕ) → member k (keep p (range n)) ≡ (ltb k n && p k)

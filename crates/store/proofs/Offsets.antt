@@ -13,8 +13,8 @@ use borrow.Author.Tests.{eqb-true, eq-eqb, leb-true, le-leb}
 use Rattle.lists.specs.Lists.{range}
 use Rattle.lists.proofs.Tests.{clash, and-l, and-r, and-both}
 use Rattle.lists.proofs.Maps.{flatMap-suc}
-use Rattle.store.specs.Side.{listOn, Within}
-use Rattle.store.specs.Check.{risesTo, offsetsFit, offsetsOn}
+use Rattle.store.specs.inner.Side.{listOn, Within}
+use Rattle.store.specs.inner.Check.{risesTo, offsetsFit, offsetsOn}
 
 -- What the test asks, by index.
 pub record Rising (m n : ℕ) (at : ℕ → ℕ) : Type 0 where

@@ -16,13 +16,13 @@ use Rattle.lists.proofs.Count.{all-map, all-flatMap}
 use Rattle.lists.proofs.Sort.{length-sort, sort-ascending}
 use Rattle.lists.proofs.Maps.{map-under, map-flatMap}
 use Rattle.graph.specs.Graph.{Edge, Graph, Direction, forward, backward, key}
-use Rattle.graph.specs.Store.{usedWords, listIn, edgeOf, graphIn, offsets, entries, storeOf, storeFault}
+use Rattle.graph.specs.Store.{usedWords, listIn, entryEdge, graphIn, offsets, entries, storeOf, storeFault}
 use Rattle.graph.proofs.WellFormed.{WellFormed, fitting, edge-fitting, formed-well}
 use Rattle.graph.proofs.Keys.{keys-ascend, keys-below}
 use Rattle.graph.proofs.Parts.{offset, side, store-shape}
 use Rattle.graph.proofs.StoreGraph.{store-accepted}
-use Rattle.store.specs.Side.{listOn, verticesIn, edgesIn, sideIn}
-use Rattle.store.specs.Check.{countsFit, labelsFit, offsetsFit, offsetsOn, sideFits, sideGood, GoodSide, member, mirror, listMirrored, sideMirrored}
+use Rattle.store.specs.inner.Side.{listOn, verticesIn, edgesIn, sideIn}
+use Rattle.store.specs.inner.Check.{countsFit, labelsFit, offsetsFit, offsetsOn, sideFits, sideGood, GoodSide, member, mirror, listMirrored, sideMirrored}
 use Rattle.store.proofs.Counting.{Counts, counts-fit}
 use Rattle.store.proofs.Members.{member-sort, ascending-covers}
 use Rattle.store.proofs.Accepted.{side-ends}
@@ -49,24 +49,24 @@ list-in store v =
     ap₂ (λ (to base : ℕ). take (getD store to 0 - from) (drop base store))
     (let e : 2 + n + suc v ≡ 2 + n + v + 1 = omega arith in e) (let e : 3 + 2 * n + from ≡ 2 + n + n + 1 + from = omega arith in e)
 
-edges-in : (store : List ℕ) → graphIn store .edges ≡ flatMap (λ (v : ℕ). map (edgeOf v) (listTo store forward v)) (range (verticesIn store))
+edges-in : (store : List ℕ) → graphIn store .edges ≡ flatMap (λ (v : ℕ). map (entryEdge v) (listTo store forward v)) (range (verticesIn store))
 unfolding graphIn
-edges-in store = ap (λ (f : ℕ → List Edge). flatMap f (range (verticesIn store))) (fun-ext (λ v. ap (map (edgeOf v)) (list-in store v)))
+edges-in store = ap (λ (f : ℕ → List Edge). flatMap f (range (verticesIn store))) (fun-ext (λ v. ap (map (entryEdge v)) (list-in store v)))
 
 -- The keys of its edges in a direction.
 edge-keys : (d : Direction) (store : List ℕ)
-    → map (key d) (graphIn store .edges) ≡ flatMap (λ (v : ℕ). map (λ (k : ℕ). key d (edgeOf v k)) (listTo store forward v)) (range (verticesIn store))
+    → map (key d) (graphIn store .edges) ≡ flatMap (λ (v : ℕ). map (λ (k : ℕ). key d (entryEdge v k)) (listTo store forward v)) (range (verticesIn store))
 edge-keys d store =
     ap (map (key d)) (edges-in store)
-    ∙ map-flatMap (key d) (λ (v : ℕ). map (edgeOf v) (listTo store forward v)) (range (verticesIn store))
-    ∙ ap (λ (f : ℕ → List ℕ). flatMap f (range (verticesIn store))) (fun-ext (λ v. map-map (key d) (edgeOf v) (listTo store forward v)))
+    ∙ map-flatMap (key d) (λ (v : ℕ). map (entryEdge v) (listTo store forward v)) (range (verticesIn store))
+    ∙ ap (λ (f : ℕ → List ℕ). flatMap f (range (verticesIn store))) (fun-ext (λ v. map-map (key d) (entryEdge v) (listTo store forward v)))
 
 forward-keys : (store : List ℕ) → map (key forward) (graphIn store .edges) ≡ keysOf (listTo store forward) (verticesIn store)
 unfolding keysOf
 forward-keys store =
     edge-keys forward store
     ∙ ap (λ (f : ℕ → ℕ → ℕ). flatMap (λ (v : ℕ). map (f v) (listTo store forward v)) (range (verticesIn store)))
-    (fun-ext (λ v. fun-ext (λ k. let e : key forward (edgeOf v k) ≡ keyAt v k = omega arith in e)))
+    (fun-ext (λ v. fun-ext (λ k. let e : key forward (entryEdge v k) ≡ keyAt v k = omega arith in e)))
 
 module _ (store : List ℕ) (passed : Passed store) where
   counted : Counts store
@@ -113,14 +113,14 @@ module _ (store : List ℕ) (passed : Passed store) where
   edges-fit : all (fitting n) (g .edges) ≡ true
   edges-fit =
       ap (all (fitting n)) (edges-in store)
-      ∙ all-flatMap (fitting n) (λ (v : ℕ). map (edgeOf v) (listTo store forward v)) (range n)
-      ∙ all-range (λ (v : ℕ). all (fitting n) (map (edgeOf v) (listTo store forward v))) n
+      ∙ all-flatMap (fitting n) (λ (v : ℕ). map (entryEdge v) (listTo store forward v)) (range n)
+      ∙ all-range (λ (v : ℕ). all (fitting n) (map (entryEdge v) (listTo store forward v))) n
       (λ v h.
-      all-map (fitting n) (edgeOf v) (listTo store forward v)
-      ∙ all-follows (goodEntry n) (λ (k : ℕ). fitting n (edgeOf v k)) (listTo store forward v) (list-good forward v h)
+      all-map (fitting n) (entryEdge v) (listTo store forward v)
+      ∙ all-follows (goodEntry n) (λ (k : ℕ). fitting n (entryEdge v k)) (listTo store forward v) (list-good forward v h)
       (λ k t.
       let f : Entry n k = good-entry n k t in
-      edge-fitting n (edgeOf v k) (record { source-in = h; target-in = f .inside; label-given = omega arith; label-fits = omega arith })))
+      edge-fitting n (entryEdge v k) (record { source-in = h; target-in = f .inside; label-given = omega arith; label-fits = omega arith })))
 
   well : WellFormed g
   unfolding graphIn labelsFit
@@ -149,7 +149,7 @@ module _ (store : List ℕ) (passed : Passed store) where
   backward-keys : (k : ℕ) → member k (map (key backward) (g .edges)) ≡ true → member k (keysOf (listTo store backward) n) ≡ true
   unfolding keysOf
   backward-keys k t =
-      pair-some has (λ (v j : ℕ). key backward (edgeOf v j)) (listTo store forward) n k mirrored (sym (ap (member k) (edge-keys backward store)) ∙ t)
+      pair-some has (λ (v j : ℕ). key backward (entryEdge v j)) (listTo store forward) n k mirrored (sym (ap (member k) (edge-keys backward store)) ∙ t)
       (λ v j h s e.
       let f : Entry n j = good-entry n j (and-l (goodEntry n j) (member (mirror v j) (listTo store backward (j % 65536))) s) in
       subst (λ (i : ℕ). member i (keysOf (listTo store backward) n) ≡ true)

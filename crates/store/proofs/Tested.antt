@@ -16,9 +16,9 @@ use Rattle.graph.specs.Graph.{Edge, Graph, Direction, forward, backward, near, 
 use Rattle.graph.specs.Store.{usedWords, graphIn, storeFault}
 use Rattle.graph.proofs.WellFormed.{WellFormed, fitting}
 use Rattle.graph.proofs.Keys.{near-in, far-in}
-use Rattle.store.specs.Side.{verticesIn, edgesIn, sideIn}
-use Rattle.store.specs.Check.{countsFit, labelsFit, offsetsFit, offsetsOn, listFits, sideFits, member, mirror, listMirrored, sideMirrored}
-use Rattle.store.specs.Portion.{listOf}
+use Rattle.store.specs.inner.Side.{verticesIn, edgesIn, sideIn}
+use Rattle.store.specs.inner.Check.{countsFit, labelsFit, offsetsFit, offsetsOn, listFits, sideFits, member, mirror, listMirrored, sideMirrored}
+use Rattle.store.specs.inner.Portion.{listOf}
 use Rattle.store.proofs.Counting.{fit-counts}
 use Rattle.store.proofs.Listed.{list-all, list-any, list-ascends, entries-given, entries-fit, entries-in}
 use Rattle.store.proofs.Accepted.{side-ends, graph-formed, store-length, store-edges, offset-in, list-within, list-on}

@@ -1,4 +1,2 @@
--- The store's lookup: a vertex's list, and its portion for one label; and the parts of the store check.
-pub mod Side
-pub mod Portion
-pub mod Check
+-- No public contract cites a definition of this crate: all are of inner functions.
+pub mod inner

@@ -5,21 +5,22 @@ use search::find;
 use search::has;
 ghost use mathlib.Core.Path.{_≡_};
 ghost use mathlib.Core.Bool.{true, _&&_};
-ghost use Prim.Native.Nat.{ℕ, _+_, _≤_, _<_};
+ghost use Prim.Native.Nat.{ℕ, suc, _+_, _≤_, _<_};
 ghost use lib.Dec.{ltb};
 ghost use lib.ListN.{length};
 ghost use Rattle.lists.specs.Lists.{all, ascending};
+ghost use Rattle.graph.specs.Graph.{maxGraphVertices};
 ghost use Rattle.graph.specs.Store.{storeFault};
-ghost use Rattle.store.specs.Side.{Within};
-ghost use Rattle.store.specs.Check.{unless, countsFit, member, offsetsFit, offsetsOn, entryFits, listFits, sideFits, sideGood, GoodSide, listMirrored, sideMirrored, Counted};
+ghost use Rattle.store.specs.inner.Side.{Within};
+ghost use Rattle.store.specs.inner.Check.{unless, countsFit, member, offsetsFit, offsetsOn, entryFits, listFits, sideFits, sideGood, GoodSide, listMirrored, sideMirrored, Counted};
 
-// 19 where a word is not below an end, else 0.
-fn words_fault(part: &[u32], end: u32) -> u32
-    ensures { λ r. ⌜ r ≡ unless (all (λ (k : ℕ). ltb k end) (now (part .entry))) ⌝ }
+// 19 where a word is above a limit, else 0.
+fn words_fault(part: &[u32], limit: u32) -> u32
+    ensures { λ r. ⌜ r ≡ unless (all (λ (k : ℕ). ltb k (suc limit)) (now (part .entry))) ⌝ }
 {
     let mut i = 0;
     while i < part.len() {
-        if end <= part[i] {
+        if limit < part[i] {
             return 19;
         }
         i += 1;
@@ -50,7 +51,7 @@ fn offsets_fault(part: &[u32], m: u32) -> u32
     0
 }
 
-// 19 unless an entry is above the last one, has a label below 256 and a neighbour below n; else 0.
+// 19 unless an entry is above the last one, has a label of at most 255 and a neighbour below n; else 0.
 fn entry_fault(entry: u32, last: u32, n: usize) -> u32
     ensures { λ r. ⌜ r ≡ unless (entryFits n last entry) ⌝ }
 {
@@ -166,7 +167,7 @@ fn mirrored_list_fault(
     guesses: &mut [u32],
 ) -> u32
     requires { ⌜ GoodSide (now store) n other ⌝ }
-    requires { ⌜ (v < n) × (n < 65536) ⌝ }
+    requires { ⌜ (v < n) × (n < suc maxGraphVertices) ⌝ }
     ensures { λ r. ⌜ r ≡ unless (listFits n (now (list .entry)) && listMirrored (now (store .entry)) n other v (now (list .entry))) ⌝ }
 {
     let mut last = Graph::SPAN - 1;
@@ -199,7 +200,7 @@ fn mirrored_lists_fault(
 ) -> u32
     requires { ⌜ ((v : ℕ) → v < n → Within (now store) n side v) ⌝ }
     requires { ⌜ GoodSide (now store) n other ⌝ }
-    requires { ⌜ n < 65536 ⌝ }
+    requires { ⌜ n < suc maxGraphVertices ⌝ }
     ensures { λ r. ⌜ r ≡ unless (sideFits (now (store .entry)) n side && sideMirrored (now (store .entry)) n side other) ⌝ }
 {
     let mut v = 0;
@@ -245,7 +246,7 @@ fn sides_fault(
     requires { ⌜ Counted (now store) n m forward backward ⌝ }
     ensures { λ r. ⌜ r ≡ storeFault (now (store .entry)) ⌝ }
 {
-    let labels = words_fault(&store[Graph::LABELS..forward], Graph::SPAN);
+    let labels = words_fault(&store[Graph::LABELS..forward], Graph::MAX_VERTEX_LABEL);
     if labels != 0 {
         return labels;
     }

@@ -14,7 +14,26 @@ const SCRATCH_WORDS: usize = 2048;
 
 const LIST_WORDS: usize = 2048;
 
-// Reads a file as far as the buffer goes and answers how many bytes came; 0 where the file is missing or can't be read.
+// Reads until the buffer is full or the file ends, and answers how many bytes came; 0 where a read fails, whatever came before.
+fn read_all(fd: i32, buffer: &mut [u8]) -> usize
+    ensures { λ r. ⌜ Counts r (now (buffer .exit)) ⌝ }
+{
+    let mut done = 0;
+    while done < buffer.len() {
+        let got = libc::read(fd, &mut buffer[done..]);
+        if got < 0 {
+            return 0;
+        }
+        let more = io::count(got, &buffer[done..]);
+        if more == 0 {
+            break;
+        }
+        done += more;
+    }
+    done
+}
+
+// Reads a file as far as the buffer goes and answers how many bytes came; 0 where the file is missing or can't be read to its end.
 fn read(name: &[u8], buffer: &mut [u8]) -> usize
     ensures { λ r. ⌜ Counts r (now (buffer .exit)) ⌝ }
 {
@@ -22,7 +41,7 @@ fn read(name: &[u8], buffer: &mut [u8]) -> usize
     if fd < 0 {
         return 0;
     }
-    let got = io::read_full(fd, buffer);
+    let got = read_all(fd, buffer);
     libc::close(fd);
     got
 }

@@ -6,8 +6,8 @@ use Rattle.query.specs.File.{queryOf, queryFault}
 use Rattle.query.specs.declared.Query.{Query as QueryStruct}
 use Rattle.query.proofs.Structs.{file-struct}
 use Rattle.query.proofs.FileLaws.{query-readable, query-held}
-use Rattle.plan.specs.Parts.{ofSize, fileFault}
-use Rattle.plan.specs.Answer.{planStruct}
+use Rattle.plan.specs.inner.Parts.{ofSize, planFileFault}
+use Rattle.plan.specs.inner.Struct.{planStruct}
 use Rattle.plan.proofs.Structs.{file-operators}
 use Rattle.plan.proofs.Accepted.{file-fault-size, all-named, bits-all, count-le, check-query, check-file, check-rules}
 use Rattle.plan.proofs.check_fault.Statement.{statement}
@@ -19,14 +19,14 @@ query-clear c = sym (c .before .query-fault .ensures) ∙ c .if1 .left
 
 -- The faults for the query's size are those for the query; past the second test the plan's file has none.
 file-is : (c : tie.After-file-fault)
-    → let a = c .before .before .before .before .before .before .args in c .file-fault .result ≡ fileFault (queryOf (now (a .query))) (now (a .plan))
+    → let a = c .before .before .before .before .before .before .args in c .file-fault .result ≡ planFileFault (queryOf (now (a .query))) (now (a .plan))
 file-is c =
     let a = c .before .before .before .before .before .before .args in
-    c .file-fault .ensures ∙ ap (λ (d : QueryStruct). fileFault (ofSize (d .vertices) (d .edges)) (now (a .plan))) (c .before .of-file .ensures)
+    c .file-fault .ensures ∙ ap (λ (d : QueryStruct). planFileFault (ofSize (d .vertices) (d .edges)) (now (a .plan))) (c .before .of-file .ensures)
     ∙ file-fault-size (queryOf (now (a .query))) (now (a .plan))
 
 file-clear : (c : tie.Else2)
-    → let a = c .before .before .before .before .before .before .before .args in fileFault (queryOf (now (a .query))) (now (a .plan)) ≡ 0
+    → let a = c .before .before .before .before .before .before .before .args in planFileFault (queryOf (now (a .query))) (now (a .plan)) ≡ 0
 file-clear c = sym (file-is (c .before)) ∙ c .if2 .left
 
 query-fault-requires : tie.Need-query-fault-requires

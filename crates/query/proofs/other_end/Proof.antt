@@ -1,6 +1,6 @@
 -- `query::other_end` meets its contract. Assumes nothing.
 use mathlib.Core.Path.{sym, _∙_}
-use Rattle.query.specs.Answer.{asEdge}
+use Rattle.query.specs.inner.Struct.{asEdge}
 use Rattle.query.proofs.Masks.{in-none}
 use Rattle.query.proofs.Touch.{from-source, from-target, from-neither}
 use borrow.Author.Needs.{needs}

@@ -3,8 +3,8 @@ use mathlib.Core.Path.{_≡_, sym, _∙_, ap}
 use mathlib.Core.Bool.{not}
 use Rattle.lists.specs.Refusal.{refuse}
 use Rattle.query.specs.Query.{Query, connected}
-use Rattle.query.specs.Parts.{fileFault}
-use Rattle.query.specs.Answer.{queryIn}
+use Rattle.query.specs.inner.Parts.{queryFileFault}
+use Rattle.query.specs.inner.Struct.{queryIn}
 use Rattle.query.specs.declared.Query.{Query as QueryStruct}
 use Rattle.query.proofs.Structs.{file-struct, held}
 use Rattle.query.proofs.FileLaws.{query-first, query-last, file-readable}
@@ -15,7 +15,7 @@ use Rattle.query.proofs.query_fault.Tie as tie
 file-fault-requires : tie.Need-file-fault-requires
 file-fault-requires c κs = search needs
 
-clear : (c : tie.Else1) → fileFault (c .before .before .before .args .file .now) ≡ 0
+clear : (c : tie.Else1) → queryFileFault (c .before .before .before .args .file .now) ≡ 0
 clear c = sym (c .before .file-fault .ensures) ∙ c .if1 .left
 
 returns : tie.Need-returns

@@ -5,7 +5,7 @@ use Prim.Native.Nat.{_≤_, _-_}
 use native.Mathlib.Omega.{arith}
 use borrow.Author.Needs.{needs}
 use Rattle.graph.specs.File.{edgeCount}
-use Rattle.load.specs.Reading.{edgesFault}
+use Rattle.load.specs.inner.Reading.{graphEdgesFault}
 use Rattle.load.proofs.Refused.{Faultless, Read, faultless-start, fault-source, fault-target, fault-label, fault-order, fault-none, read-fault, read-more}
 use Rattle.load.proofs.file.edges_fault.Statement.{statement}
 use Rattle.load.proofs.file.edges_fault.Tie as tie
@@ -81,7 +81,7 @@ loop-again c = (
 )
 
 returns-5 : tie.Need-returns-5 Inv-loop μ-loop
-unfolding edgesFault
+unfolding graphEdgesFault
 returns-5 c =
     let all : c .before .loop .i ≡ edgeCount (c .before .before .before .args .file .now) = omega arith in
     rw (← all) (sym (c .before .loop .inv .1 .none))

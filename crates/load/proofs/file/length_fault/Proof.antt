@@ -9,12 +9,12 @@ use borrow.Author.Tests.{lt-ltb, le-ltb}
 use Rattle.lists.specs.Refusal.{first}
 use Rattle.packed.specs.Field.{fillSet}
 use Rattle.graph.specs.File.{fileSize, edgeStart, edgeCount}
-use Rattle.load.specs.Reading.{lengthFault}
+use Rattle.load.specs.inner.Reading.{graphLengthFault}
 use Rattle.load.proofs.file.length_fault.Statement.{statement}
 use Rattle.load.proofs.file.length_fault.Tie as tie
 
 returns : tie.Need-returns
-unfolding lengthFault first
+unfolding graphLengthFault first
 returns c = simp (lt-ltb _ _ (c .if1 .taken))
 
 vertex-count-requires : tie.Need-vertex-count-requires
@@ -36,13 +36,13 @@ add-size-2 : tie.Need-add-size-2
 add-size-2 c = search needs
 
 returns-2 : tie.Need-returns-2
-unfolding lengthFault first
+unfolding graphLengthFault first
 returns-2 c =
     let s = c .before .before .before .before .before .args .file .now in
     simp (le-ltb (length s) 5 (omega arith), lt-ltb (length s) (fileSize s) (omega arith))
 
 returns-3 : tie.Need-returns-3
-unfolding lengthFault first
+unfolding graphLengthFault first
 returns-3 c =
     let s = c .before .before .before .before .before .before .args .file .now in
     simp (le-ltb (length s) 5 (omega arith), le-ltb (length s) (fileSize s) (omega arith), lt-ltb (fileSize s) (length s) (omega arith))
@@ -54,7 +54,7 @@ fill-set-requires : tie.Need-fill-set-requires
 fill-set-requires c κs = search needs
 
 returns-4 : tie.Need-returns-4
-unfolding lengthFault first
+unfolding graphLengthFault first
 returns-4 c =
     let s = c .before .before .before .before .before .before .before .before .before .args .file .now in
     let at : c .before .before .edge-start .result ≡ edgeStart s (edgeCount s) = omega arith in
@@ -62,7 +62,7 @@ returns-4 c =
     simp (le-ltb (length s) 5 (omega arith), le-ltb (length s) (fileSize s) (omega arith), le-ltb (fileSize s) (length s) (omega arith), fill)
 
 returns-5 : tie.Need-returns-5
-unfolding lengthFault first
+unfolding graphLengthFault first
 returns-5 c =
     let s = c .before .before .before .before .before .before .before .before .before .args .file .now in
     let at : c .before .before .edge-start .result ≡ edgeStart s (edgeCount s) = omega arith in

@@ -6,8 +6,8 @@ use native.Mathlib.Omega.{arith}
 use lib.Dec.{lit≤}
 use Rattle.packed.specs.Field.{bitsIn}
 use Rattle.packed.proofs.Laws.{field-lt}
-use Rattle.plan.specs.File.{kindAt, operandWidth}
-use Rattle.plan.specs.Answer.{maxOperators}
+use Rattle.plan.specs.File.{kindAt, operandBits}
+use Rattle.plan.specs.Plan.{maxOperators}
 use Rattle.plan.proofs.Places.{place-long}
 use Rattle.plan.proofs.Structs.{Copied, copied-none, copied-there, copied-more, copied-all}
 use Rattle.plan.proofs.Plan.of_file.Statement.{statement}
@@ -25,7 +25,7 @@ index c =
     omega (arith, c .before .before .operator-count .ensures, field-lt (now (c .before .before .before .before .args .file)) 0 5)
 
 bits : (c : tie.In-loop Inv-loop μ-loop)
-    → let s = now (c .before .before .before .before .args .file) in c .before .loop .at + 2 + operandWidth (kindAt s (c .before .loop .at)) ≤ bitsIn s
+    → let s = now (c .before .before .before .before .args .file) in c .before .loop .at + 2 + operandBits (kindAt s (c .before .loop .at)) ≤ bitsIn s
 bits c =
     copied-there _ (c .before .loop .inv .1) (rw (c .before .before .operator-count .ensures) at (c .loop-test .taken)) (c .before .before .before .before .pre)
 

@@ -5,21 +5,21 @@ use native.Mathlib.Omega.{arith}
 use borrow.Author.Needs.{needs}
 use borrow.Author.Tests.{eq-eqb, ne-eqb}
 use Rattle.packed.proofs.Laws.{field-lt}
-use Rattle.plan.specs.Parts.{fileFault}
+use Rattle.plan.specs.inner.Parts.{planFileFault}
 use Rattle.plan.proofs.Refusals.{stops, passes}
 use Rattle.plan.proofs.Places.{bits-lack, bits-there}
 use Rattle.plan.proofs.file.file_fault.Statement.{statement}
 use Rattle.plan.proofs.file.file_fault.Tie as tie
 
 returns : tie.Need-returns
-unfolding fileFault
+unfolding planFileFault
 returns c = rw (stops 11 _ _ (bits-lack (now (c .before .before .args .file)) 5 (c .if1 .taken)))
 
 operator-count-requires : tie.Need-operator-count-requires
 operator-count-requires c κs = search needs
 
 returns-2 : tie.Need-returns-2
-unfolding fileFault
+unfolding planFileFault
 returns-2 c =
     rw (
       passes 12 _ _ (bits-there _ 5 (c .before .before .if1 .left)),
@@ -33,7 +33,7 @@ operators-fault-requires c κs = (
 )
 
 returns-3 : tie.Need-returns-3
-unfolding fileFault
+unfolding planFileFault
 returns-3 c =
     let p = c .before .before in
     rw (

@@ -3,7 +3,7 @@ use mathlib.Core.Path.{_≡_, sym, _∙_}
 use denote.Ref.{now}
 use Prim.Native.Nat.{_-_, _≤_}
 use native.Mathlib.Omega.{arith}
-use Rattle.plan.specs.Parts.{ofSize}
+use Rattle.plan.specs.inner.Parts.{ofSize}
 use Rattle.plan.proofs.Places.{Passed, operator-there, passed-none, passed-more, passed-stop, passed-end}
 use Rattle.plan.proofs.file.operators_fault.Statement.{statement}
 use Rattle.plan.proofs.file.operators_fault.Tie as tie

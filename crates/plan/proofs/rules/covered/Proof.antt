@@ -2,13 +2,13 @@
 use mathlib.Core.List.{_∷_, map}
 use lib.ListN.{length, drop}
 use Rattle.query.specs.Query.{VertexSet}
-use Rattle.query.specs.Mask.{inMask}
+use Rattle.query.specs.inner.Mask.{inMask}
 use mathlib.Core.Path.{sym, _∙_, ap, ap₂, fun-ext}
 use Prim.Native.Nat.{ℕ, _<_}
 use native.Mathlib.Omega.{arith}
 use Rattle.plan.specs.Plan.{plus, union}
 use Rattle.plan.specs.Check.{covered}
-use Rattle.plan.specs.Pile.{masksIn, setsIn}
+use Rattle.plan.specs.inner.Pile.{masksIn, setsIn}
 use Rattle.plan.proofs.Sets.{or-set, plus-set, edge-source, edge-target, named-vertex, named-edge}
 use Rattle.plan.proofs.Stacks.{depth-is}
 use Rattle.plan.proofs.Piles.{extend-asks, extend-covers, join-asks, join-covers}

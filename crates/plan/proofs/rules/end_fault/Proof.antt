@@ -7,11 +7,11 @@ use lib.Dec.{eqb}
 use lib.ListN.{getD}
 use borrow.Author.Tests.{ne-eqb}
 use Rattle.lists.specs.Refusal.{refuse}
-use Rattle.query.specs.Answer.{queryIn}
-use Rattle.query.specs.Mask.{inMask}
+use Rattle.query.specs.inner.Struct.{queryIn}
+use Rattle.query.specs.inner.Mask.{inMask}
 use Rattle.query.proofs.Masks.{mask-all}
 use Rattle.plan.specs.Check.{endFault}
-use Rattle.plan.specs.Pile.{masksIn, setsIn}
+use Rattle.plan.specs.inner.Pile.{masksIn, setsIn}
 use Rattle.plan.proofs.Stacks.{depth-is}
 use Rattle.plan.proofs.Piles.{end-none, end-one, end-many}
 use borrow.Author.Needs.{needs}

@@ -6,8 +6,8 @@ use lib.Bits.{bitAnd}
 use borrow.Author.Tests.{ne-eqb}
 use Rattle.lists.proofs.Bits.{bit-one, bit-other}
 use Rattle.query.specs.Query.{touches}
-use Rattle.query.specs.Answer.{queryIn}
-use Rattle.query.specs.Mask.{inMask}
+use Rattle.query.specs.inner.Struct.{queryIn}
+use Rattle.query.specs.inner.Mask.{inMask}
 use Rattle.query.proofs.Touch.{touches-mask}
 use borrow.Author.Needs.{needs}
 use Rattle.plan.proofs.rules.extend_fault.Statement.{statement}

@@ -1,6 +1,6 @@
 -- `plan::rules::inside` meets its contract: the product of two digits is 1 where both are. Assumes nothing.
 use Rattle.plan.proofs.Bits.{both-bits, bits-fit}
-use Rattle.query.specs.Mask.{inMask}
+use Rattle.query.specs.inner.Mask.{inMask}
 use borrow.Author.Needs.{needs}
 use Rattle.plan.proofs.rules.inside.Statement.{statement}
 use Rattle.plan.proofs.rules.inside.Tie as tie

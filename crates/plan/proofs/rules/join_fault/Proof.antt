@@ -9,8 +9,8 @@ use borrow.Author.Needs.{needs}
 use borrow.Author.Tests.{ne-eqb}
 use Rattle.lists.specs.Lists.{range, any}
 use Rattle.query.specs.Query.{VertexSet}
-use Rattle.query.specs.Answer.{queryIn}
-use Rattle.query.specs.Mask.{inMask, MaskOf}
+use Rattle.query.specs.inner.Struct.{queryIn}
+use Rattle.query.specs.inner.Mask.{inMask, MaskOf}
 use Rattle.query.proofs.Masks.{in-and}
 use Rattle.plan.specs.Check.{joinable}
 use Rattle.plan.proofs.Sets.{any-mask}

@@ -1,6 +1,6 @@
 -- `plan::rules::lost` meets its contract: an edge within neither set is lost where it lies within the union. Assumes nothing.
 use mathlib.Core.Path.{sym, _∙_}
-use Rattle.query.specs.Answer.{asEdge}
+use Rattle.query.specs.inner.Struct.{asEdge}
 use Rattle.plan.proofs.Sets.{kept-build, kept-probe, kept-neither}
 use borrow.Author.Needs.{needs}
 use Rattle.plan.proofs.rules.lost.Statement.{statement}

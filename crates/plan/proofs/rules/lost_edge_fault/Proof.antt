@@ -7,9 +7,9 @@ use native.Mathlib.Omega.{arith}
 use borrow.Author.Count.{below-more}
 use Rattle.lists.proofs.Tests.{not-true, not-false}
 use Rattle.query.specs.Query.{edgeAt}
-use Rattle.query.specs.Answer.{queryIn}
-use Rattle.query.specs.Mask.{inMask}
-use Rattle.plan.specs.Pile.{kept}
+use Rattle.query.specs.inner.Struct.{queryIn}
+use Rattle.query.specs.inner.Mask.{inMask}
+use Rattle.plan.specs.inner.Pile.{kept}
 use Rattle.plan.proofs.Sets.{edge-source, edge-target, edges-pass, edge-fails}
 use Rattle.plan.proofs.rules.lost_edge_fault.Statement.{statement}
 use Rattle.plan.proofs.rules.lost_edge_fault.Tie as tie

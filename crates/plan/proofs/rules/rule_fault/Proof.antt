@@ -3,7 +3,7 @@ use mathlib.Core.Path.{sym, _∙_}
 use native.Mathlib.Omega.{arith}
 use borrow.Author.Needs.{needs}
 use Rattle.plan.specs.Check.{ruleFault}
-use Rattle.plan.specs.Pile.{masksIn}
+use Rattle.plan.specs.inner.Pile.{masksIn}
 use Rattle.plan.proofs.Sets.{named-vertex}
 use Rattle.plan.proofs.Stacks.{depth-is}
 use Rattle.plan.proofs.Piles.{extend-none, extend-some, join-few, join-two}

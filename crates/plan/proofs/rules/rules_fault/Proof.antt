@@ -6,10 +6,10 @@ use mathlib.Core.List.{[]}
 use Prim.Native.Nat.{_-_, _≤_}
 use native.Mathlib.Omega.{arith}
 use lib.ListN.{drop}
-use Rattle.query.specs.Answer.{queryIn}
+use Rattle.query.specs.inner.Struct.{queryIn}
 use Rattle.plan.specs.Check.{rulesFault}
-use Rattle.plan.specs.Answer.{operatorIs, operatorsIn}
-use Rattle.plan.specs.Pile.{setsIn, named as has}
+use Rattle.plan.specs.inner.Struct.{operatorIs, operatorsIn}
+use Rattle.plan.specs.inner.Pile.{setsIn, named as has}
 use Rattle.plan.proofs.Turns.{named-at, rules-stop, rules-pass, rules-done}
 use Rattle.plan.proofs.rules.rules_fault.Statement.{statement}
 use Rattle.plan.proofs.rules.rules_fault.Tie as tie

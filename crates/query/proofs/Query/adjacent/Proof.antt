@@ -4,8 +4,8 @@ use Prim.Native.Nat.{ℕ, _≤_, _<_, _-_}
 use native.Mathlib.Omega.{arith}
 use borrow.Author.Needs.{needs}
 use Rattle.graph.specs.Graph.{Edge}
-use Rattle.query.specs.Answer.{asEdge, edgeOf}
-use Rattle.query.specs.Mask.{MaskOf}
+use Rattle.query.specs.inner.Struct.{asEdge, edgeOf}
+use Rattle.query.specs.inner.Mask.{MaskOf}
 use Rattle.query.proofs.Structs.{edge-read}
 use Rattle.query.proofs.Touch.{byFirst, by-none, by-next, by-all}
 use Rattle.query.proofs.Query.adjacent.Statement.{statement}

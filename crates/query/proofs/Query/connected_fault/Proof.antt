@@ -6,7 +6,7 @@ use borrow.Author.Needs.{needs}
 use borrow.Author.Tests.{eq-eqb, ne-eqb}
 use Rattle.lists.specs.Refusal.{refuse}
 use Rattle.query.specs.Query.{connected}
-use Rattle.query.specs.Answer.{queryIn}
+use Rattle.query.specs.inner.Struct.{queryIn}
 use Rattle.query.proofs.Steps.{connected-mask}
 use Rattle.query.proofs.Query.connected_fault.Statement.{statement}
 use Rattle.query.proofs.Query.connected_fault.Tie as tie

@@ -1,7 +1,7 @@
 -- `query::Query::edge` meets its contract: each array has the field of edge i at i. Assumes nothing.
 use mathlib.Core.Path.{sym, ap}
 use borrow.Author.Needs.{needs}
-use Rattle.query.specs.Answer.{edgeStruct}
+use Rattle.query.specs.inner.Struct.{edgeStruct}
 use Rattle.query.proofs.Structs.{edge-in}
 use Rattle.query.proofs.Query.edge.Statement.{statement}
 use Rattle.query.proofs.Query.edge.Tie as tie

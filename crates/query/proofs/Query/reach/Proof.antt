@@ -5,15 +5,15 @@ use Prim.Native.Nat.{ℕ, _≤_, _-_}
 use native.Mathlib.Omega.{arith}
 use borrow.Author.Needs.{needs}
 use borrow.Author.Tests.{eq-eqb, ne-eqb}
-use Rattle.query.specs.Answer.{queryIn}
-use Rattle.query.specs.Mask.{inMask, MaskOf, grown}
+use Rattle.query.specs.inner.Struct.{queryIn}
+use Rattle.query.specs.inner.Mask.{inMask, MaskOf, withNeighbours}
 use Rattle.query.proofs.Steps.{grown-none, grown-more, grown-same}
 use Rattle.query.proofs.Touch.{touches-mask}
 use Rattle.query.proofs.Query.reach.Statement.{statement}
 use Rattle.query.proofs.Query.reach.Tie as tie
 
 abbrev Inv-loop : tie.InvT-loop
-Inv-loop self set next₀ w₀ next w = (w ≤ self .vertices) × MaskOf next (grown (queryIn self) (inMask set) w)
+Inv-loop self set next₀ w₀ next w = (w ≤ self .vertices) × MaskOf next (withNeighbours (queryIn self) (inMask set) w)
 
 abbrev μ-loop : tie.MeasureT-loop
 μ-loop self set next₀ w₀ next w = self .vertices - w
@@ -61,7 +61,7 @@ returns : tie.Need-returns Inv-loop μ-loop
 returns c u =
     let a = c .before .before .before .args in
     let all : c .before .before .loop .w ≡ a .self .vertices = omega arith in
-    c .before .before .loop .inv .1 u ∙ ap (λ (n : ℕ). grown (queryIn (a .self)) (inMask (a .set)) n u) all
+    c .before .before .loop .inv .1 u ∙ ap (λ (n : ℕ). withNeighbours (queryIn (a .self)) (inMask (a .set)) n u) all
 
 pub reach-spec : {M : Type 1} → statement M
 reach-spec =

@@ -4,8 +4,8 @@ use Prim.Native.Nat.{ℕ, _≤_, _-_}
 use native.Mathlib.Omega.{arith}
 use borrow.Author.Needs.{needs}
 use Rattle.query.specs.Query.{among, reached}
-use Rattle.query.specs.Answer.{queryIn}
-use Rattle.query.specs.Mask.{MaskOf}
+use Rattle.query.specs.inner.Struct.{queryIn}
+use Rattle.query.specs.inner.Mask.{MaskOf}
 use Rattle.query.proofs.Steps.{reached-none, reached-more}
 use Rattle.query.proofs.Query.reached.Statement.{statement}
 use Rattle.query.proofs.Query.reached.Tie as tie

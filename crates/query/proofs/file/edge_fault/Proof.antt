@@ -3,7 +3,7 @@ use native.Mathlib.Omega.{arith}
 use borrow.Author.Tests.{lt-ltb, le-ltb, eq-eqb, ne-eqb}
 use Rattle.lists.specs.Refusal.{first}
 use Rattle.query.specs.File.{key}
-use Rattle.query.specs.Parts.{edgeFrom}
+use Rattle.query.specs.inner.Parts.{edgeFrom}
 use borrow.Author.Needs.{needs}
 use Rattle.query.proofs.file.edge_fault.Statement.{statement}
 use Rattle.query.proofs.file.edge_fault.Tie as tie

@@ -6,7 +6,7 @@ use native.Mathlib.Omega.{arith}
 use borrow.Author.Needs.{needs}
 use Rattle.lists.specs.Lists.{range}
 use Rattle.query.specs.File.{maxEdges}
-use Rattle.query.specs.Parts.{edgeField}
+use Rattle.query.specs.inner.Parts.{edgeField}
 use Rattle.query.specs.Answer.{padded}
 use Rattle.query.proofs.Images.{padded-step}
 use Rattle.query.proofs.file.edge_fields.Statement.{statement}

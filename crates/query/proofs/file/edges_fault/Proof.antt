@@ -6,19 +6,19 @@ use native.Mathlib.Omega.{arith}
 use borrow.Author.Needs.{needs}
 use Rattle.lists.specs.Lists.{range}
 use Rattle.lists.specs.Refusal.{first}
-use Rattle.query.specs.Parts.{edgesFault}
+use Rattle.query.specs.inner.Parts.{queryEdgesFault}
 use Rattle.query.proofs.FileLaws.{key-lt, leastKey, fault-here, least-next, edges-next, edges-stop}
 use Rattle.query.proofs.file.edges_fault.Statement.{statement}
 use Rattle.query.proofs.file.edges_fault.Tie as tie
 
 abbrev Inv-loop : tie.InvT-loop
-Inv-loop file n m least₀ i₀ least i = (i ≤ m) × (edgesFault file i ≡ 0) × (least ≡ leastKey file i)
+Inv-loop file n m least₀ i₀ least i = (i ≤ m) × (queryEdgesFault file i ≡ 0) × (least ≡ leastKey file i)
 
 abbrev μ-loop : tie.MeasureT-loop
 μ-loop file n m least₀ i₀ least i = m - i
 
 loop-holds : tie.Need-loop-holds Inv-loop μ-loop
-unfolding edgesFault leastKey range first
+unfolding queryEdgesFault leastKey range first
 loop-holds c = (omega arith, refl, refl)
 
 edge-start-requires : tie.Need-edge-start-requires Inv-loop μ-loop

@@ -7,7 +7,7 @@ use Rattle.lists.specs.Refusal.{refuse}
 use Rattle.lists.proofs.Faults.{refuse-zero}
 use Rattle.packed.specs.Field.{bitsIn}
 use Rattle.query.specs.File.{edgeCount, edgeStart, outsideLimits}
-use Rattle.query.specs.Parts.{limitsFault, sizeFault, edgesFault}
+use Rattle.query.specs.inner.Parts.{limitsFault, sizeFault, queryEdgesFault}
 use Rattle.query.proofs.Structs.{at-most-vertices, at-most-edges}
 use Rattle.query.proofs.FileLaws.{short-first, limits-first, size-first, edges-last, size-bits}
 use borrow.Author.Needs.{needs}
@@ -72,7 +72,7 @@ edges-fault-requires c κs =
 returns-4 : tie.Need-returns-4
 returns-4 c =
     let s = c .before .before .before .before .before .before .before .before .before .before .args .file .now in
-    c .edges-fault .ensures ∙ ap (edgesFault s) (c .before .before .before .before .before .before .edge-count .ensures)
+    c .edges-fault .ensures ∙ ap (queryEdgesFault s) (c .before .before .before .before .before .before .edge-count .ensures)
     ∙ sym (edges-last s (search needs) (within (c .before .before .before .before)) (sym (size (c .before .before)) ∙ c .before .if3 .left))
 
 pub file-fault-spec : {M : Type 1} → statement M

@@ -6,7 +6,7 @@ use borrow.Author.Needs.{needs}
 use lib.ListN.{length}
 use denote.Ref.{now}
 use Rattle.search.proofs.Places.{place-some}
-use Rattle.store.specs.Check.{unless, member}
+use Rattle.store.specs.inner.Check.{unless, member}
 use Rattle.store.proofs.Loops.{unplaced, placed}
 use Rattle.store.proofs.check.guessed_fault.Statement.{statement}
 use Rattle.store.proofs.check.guessed_fault.Tie as tie

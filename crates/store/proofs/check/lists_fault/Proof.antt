@@ -2,8 +2,8 @@
 use Prim.Native.Nat.{ℕ, _-_}
 use native.Mathlib.Omega.{arith}
 use borrow.Author.Needs.{needs}
-use Rattle.store.specs.Side.{listOn}
-use Rattle.store.specs.Check.{listFits, sideFits}
+use Rattle.store.specs.inner.Side.{listOn}
+use Rattle.store.specs.inner.Check.{listFits, sideFits}
 use Rattle.store.proofs.Loops.{AllBelow, below-start, below-next, below-stop, below-end}
 use Rattle.store.proofs.check.lists_fault.Statement.{statement}
 use Rattle.store.proofs.check.lists_fault.Tie as tie

@@ -6,8 +6,8 @@ use native.Mathlib.Omega.{arith}
 use borrow.Author.Needs.{needs}
 use lib.ListN.{length, getD}
 use denote.Ref.{now}
-use Rattle.store.specs.Side.{listOn}
-use Rattle.store.specs.Check.{member, mirror, listFits, listMirrored}
+use Rattle.store.specs.inner.Side.{listOn}
+use Rattle.store.specs.inner.Check.{member, mirror, listFits, listMirrored}
 use Rattle.store.proofs.Loops.{AllFrom, all-start, all-goes, all-halts, all-end, ListFrom, list-start, list-next, list-stop, list-end, entry-in, both-pass, one-fails, other-fails}
 use Rattle.store.proofs.Fits.{side-ascends, list-length}
 use Rattle.store.proofs.check.mirrored_list_fault.Statement.{statement}

@@ -5,8 +5,8 @@ use mathlib.Core.Path.{_≡_, refl, _∙_}
 use mathlib.Core.Bool.{_&&_}
 use lib.ListN.{length}
 use denote.Ref.{now}
-use Rattle.store.specs.Side.{listOn}
-use Rattle.store.specs.Check.{listFits, listMirrored}
+use Rattle.store.specs.inner.Side.{listOn}
+use Rattle.store.specs.inner.Check.{listFits, listMirrored}
 use Rattle.store.proofs.Loops.{AllBelow, lists-both, below-start, below-next, below-stop, below-end}
 use Rattle.store.proofs.check.mirrored_lists_fault.Statement.{statement}
 use Rattle.store.proofs.check.mirrored_lists_fault.Tie as tie

@@ -1,5 +1,6 @@
 -- `store::check::words_fault` meets its contract: the words before i are below the end. Assumes nothing.
-use Prim.Native.Nat.{ℕ, _-_}
+use Prim.Native.Nat.{ℕ, suc, _-_}
+use native.Mathlib.Nat.{lt-suc-self, lt-of-le-of-lt}
 use native.Mathlib.Omega.{arith}
 use lib.Dec.{ltb}
 use lib.ListN.{length}
@@ -9,10 +10,10 @@ use Rattle.store.proofs.check.words_fault.Statement.{statement}
 use Rattle.store.proofs.check.words_fault.Tie as tie
 
 abbrev Inv-loop : tie.InvT-loop
-Inv-loop part end i₀ i = AllFrom (λ (k : ℕ). ltb k end) part i
+Inv-loop part limit i₀ i = AllFrom (λ (k : ℕ). ltb k (suc limit)) part i
 
 abbrev μ-loop : tie.MeasureT-loop
-μ-loop part end i₀ i = length part - i
+μ-loop part limit i₀ i = length part - i
 
 loop-holds : tie.Need-loop-holds Inv-loop μ-loop
 loop-holds c = all-start
@@ -33,7 +34,7 @@ loop-less : tie.Need-loop-less Inv-loop μ-loop
 loop-less c = omega arith
 
 loop-again : tie.Need-loop-again Inv-loop μ-loop
-loop-again c = all-next (c .before .before .before .loop .inv) (omega arith) (lt-ltb _ _ (c .if1 .left))
+loop-again c = all-next (c .before .before .before .loop .inv) (omega arith) (lt-ltb _ _ (lt-of-le-of-lt (c .if1 .left) (lt-suc-self _)))
 
 returns-2 : tie.Need-returns-2 Inv-loop μ-loop
 returns-2 c = all-end (c .before .loop .inv) (omega arith)

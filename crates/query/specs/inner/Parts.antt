@@ -1,0 +1,55 @@
+-- Parts of the query file and of Read query's refusal, which functions of the code answer one by one. Assumes nothing.
+use mathlib.Core.Path.{_≡_}
+use mathlib.Core.Bool.{false, not, _&&_}
+use mathlib.Core.List.{List, [], _∷_, map}
+use Prim.Native.Nat.{ℕ, _+_, _*_, _≤_}
+use lib.Dec.{leb, ltb}
+use lib.ListN.{length}
+use Rattle.lists.specs.Lists.{range}
+use Rattle.lists.specs.Refusal.{refuse, first}
+use Rattle.packed.specs.Field.{fieldAt, bitsIn, bytesFor, fillSet}
+use Rattle.graph.specs.Graph.{Edge}
+use Rattle.query.specs.File.{minVertices, maxVertices, minEdges, maxEdges, edgeCount, edgeStart, outsideLimits, key, badEdge, edgeFault}
+
+-- The label of vertex w.
+abbrev pub labelIn : List ℕ → ℕ → ℕ
+labelIn s w = fieldAt s (9 + 16 * w) 16
+
+-- A field of edge i, where the edges begin at a bit position: w bits, o bits past the edge's start.
+abbrev pub edgeField : List ℕ → ℕ → ℕ → ℕ → ℕ → ℕ
+edgeField s at o w i = fieldAt s (at + 14 * i + o) w
+
+-- '8 n or m outside its limits.'
+abbrev pub limitsFault : ℕ → ℕ → ℕ
+limitsFault n m = refuse 8 (not (leb minVertices n && leb n maxVertices && leb minEdges m && leb m maxEdges))
+
+-- '6 shorter than its own size; 7 longer, or a fill bit set', of a file that is to have b bits.
+abbrev pub sizeFault : List ℕ → ℕ → ℕ
+sizeFault s b = first (refuse 6 (ltb (length s) (bytesFor b)) ∷ refuse 7 (ltb (bytesFor b) (length s)) ∷ refuse 7 (fillSet s b) ∷ [])
+
+-- The edge that begins at a bit position.
+abbrev pub edgeFrom : List ℕ → ℕ → Edge
+edgeFrom s at = record { source = fieldAt s at 3; target = fieldAt s (at + 3) 3; label = fieldAt s (at + 6) 8 }
+
+-- '9 ..' of an edge, and '10 not ascending' where its key is below the least that ascends.
+abbrev pub keyFault : ℕ → ℕ → Edge → ℕ
+keyFault n least e = first (refuse 9 (badEdge n e) ∷ refuse 10 (ltb (key e) least) ∷ [])
+
+-- 'By edge, 9 .., 10 ..', of the first m edges.
+unfoldable pub queryEdgesFault : List ℕ → ℕ → ℕ
+queryEdgesFault s m = first (map (edgeFault s) (range m))
+
+-- The first fault but 11.
+unfoldable pub queryFileFault : List ℕ → ℕ
+queryFileFault s =
+    first
+    (refuse 6 (ltb (length s) 2)
+    ∷ refuse 8 (outsideLimits s)
+    ∷ sizeFault s (edgeStart s (edgeCount s))
+    ∷ queryEdgesFault s (edgeCount s)
+    ∷ [])
+
+-- A file from which the code may read a query: n and m are within their limits, and their bits are there.
+pub record Readable (s : List ℕ) : Type 0 where
+  pub limits : outsideLimits s ≡ false
+  pub bits : edgeStart s (edgeCount s) ≤ bitsIn s

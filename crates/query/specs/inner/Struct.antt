@@ -1,0 +1,48 @@
+-- The query in the structs of the code. Assumes nothing.
+use mathlib.Core.Bool.{Bool}
+use mathlib.Core.List.{List, map}
+use Prim.Native.Nat.{ℕ, suc, _≤_, _<_}
+use lib.Dec.{ltb}
+use lib.ListN.{getD, take}
+use Rattle.lists.specs.Lists.{range}
+use Rattle.graph.specs.Graph.{Edge, maxEdgeLabel}
+use Rattle.query.specs.Query.{Query}
+use Rattle.query.specs.File.{maxVertices, maxEdges}
+use Rattle.query.specs.declared.Edge.{Edge as EdgeStruct}
+use Rattle.query.specs.declared.Query.{Query as QueryStruct}
+
+-- A query edge as the code has it, and back.
+abbrev pub edgeStruct : Edge → EdgeStruct
+edgeStruct e = record { source = e .source; target = e .target; label = e .label }
+
+abbrev pub asEdge : EdgeStruct → Edge
+asEdge e = record { source = e .source; target = e .target; label = e .label }
+
+-- The edge of an index in a struct.
+abbrev pub edgeOf : QueryStruct → ℕ → Edge
+edgeOf d i =
+    record {
+      source = getD (d .sources) i 0;
+      target = getD (d .targets) i 0;
+      label = getD (d .«edge_labels») i 0;
+    }
+
+-- The query that a struct holds.
+unfoldable pub queryIn : QueryStruct → Query
+queryIn d =
+    record {
+      vertices = d .vertices;
+      labels = take (d .vertices) (d .labels);
+      edges = map (edgeOf d) (range (d .edges));
+    }
+
+-- What the code asks of a struct: counts that its arrays hold, and ends that are vertices of the largest query.
+pub record Held (d : QueryStruct) : Type 0 where
+  pub vertices : d .vertices ≤ maxVertices
+  pub edges : d .edges ≤ maxEdges
+  pub source : (i : ℕ) → i < d .edges → edgeOf d i .source < maxVertices
+  pub target : (i : ℕ) → i < d .edges → edgeOf d i .target < maxVertices
+
+-- A query edge's label is of a byte.
+abbrev pub byteLabel : Edge → Bool
+byteLabel e = ltb (e .label) (suc maxEdgeLabel)
