@@ -6,10 +6,9 @@ ghost use Rattle.packed.specs.Field.{fieldAt};
 ghost use Rattle.graph.specs.Graph.{maxGraphVertices, maxGraphEdges, maxEdgeLabel, entryEnd, forward, entry, key};
 ghost use Rattle.graph.specs.File.{vertexCount, edgeCount, edgeIn, graphFault};
 ghost use Rattle.graph.specs.Store.{loadFault};
-ghost use Rattle.load.specs.inner.Reading.{Whole, edgeWith, faultFrom, graphLengthFault, graphEdgesFault};
+ghost use Rattle.load.specs.inner.Reading.{Whole, edgeWith, graphLengthFault, graphEdgesFault};
 use graph::Graph;
 use packed::field;
-use packed::inner_field;
 
 pub fn vertex_count(file: &[u8]) -> usize
     requires { ⌜ 5 ≤ length (now file) ⌝ }
@@ -33,19 +32,19 @@ pub fn vertex_label(file: &[u8], n: usize, v: usize) -> u32
     field(file, 36 + 16 * v, 16)
 }
 
-// The bit position of edge i in a file of n vertices.
+// The bit position of edge i in a file of n vertices, as bit 4 of a byte: so written, the byte that a field begins in takes no division.
 fn edge_start(n: usize, i: usize) -> usize
     requires { ⌜ (n < suc maxGraphVertices) × (i < suc maxGraphEdges) ⌝ }
     ensures { λ r. ⌜ r ≡ 36 + 16 * n + 40 * i ⌝ }
 {
-    36 + 16 * n + 40 * i
+    8 * (4 + 2 * n + 5 * i) + 4
 }
 
 pub fn source(file: &[u8], n: usize, i: usize) -> u32
     requires { ⌜ Whole (now file) n × (i < edgeCount (now file)) ⌝ }
     ensures { λ r. ⌜ (r ≡ edgeIn (now (file .entry)) i .source) × (r < suc maxGraphVertices) ⌝ }
 {
-    inner_field(file, edge_start(n, i), 16)
+    field(file, edge_start(n, i), 16)
 }
 
 // The entry of edge i on the forward side: its label and its target, which are 24 bits together.
@@ -53,7 +52,7 @@ pub fn forward_entry(file: &[u8], n: usize, i: usize) -> u32
     requires { ⌜ Whole (now file) n × (i < edgeCount (now file)) ⌝ }
     ensures { λ r. ⌜ (r ≡ entry forward (edgeIn (now (file .entry)) i)) × (r < entryEnd) ⌝ }
 {
-    inner_field(file, edge_start(n, i) + 16, 24)
+    field(file, edge_start(n, i) + 16, 24)
 }
 
 pub fn label(file: &[u8], n: usize, i: usize) -> u32

@@ -26,15 +26,15 @@ fn inner_word(s: &[u8], i: usize) -> u64
     join(s[i], s[i + 1], s[i + 2], s[i + 3])
 }
 
-// The 32 bits from byte `i` on; bytes past the end count as 0.
+// The 32 bits from byte `i` on; bytes past the end count as 0. Only near a file's end are there fewer than four.
 fn word(s: &[u8], i: usize) -> u64
     requires { ⌜ i ≤ length (now s) ⌝ }
     ensures { λ r. ⌜ r ≡ fieldAt (now (s .entry)) (8 * i) 32 ⌝ }
 {
-    if s.len() - i < 4 {
-        return join(byte(s, i), byte(s, i + 1), byte(s, i + 2), byte(s, i + 3));
+    if 4 <= s.len() - i {
+        return inner_word(s, i);
     }
-    inner_word(s, i)
+    join(byte(s, i), byte(s, i + 1), byte(s, i + 2), byte(s, i + 3))
 }
 
 // The `width` bits of `w` that have `after` bits after them.
@@ -53,14 +53,6 @@ pub fn field(s: &[u8], at: usize, width: usize) -> u32
 {
     let after = 32 - at % 8 - width;
     cut(word(s, at / 8), after, width) as u32
-}
-
-// The same for a field with which a word begins that is all in the file: no test for the end is made.
-pub fn inner_field(s: &[u8], at: usize, width: usize) -> u32
-    requires { ⌜ (width ≤ 25) × (at / 8 + 4 ≤ length (now s)) ⌝ }
-    ensures { λ r. ⌜ r ≡ fieldAt (now (s .entry)) at width ⌝ }
-{
-    cut(inner_word(s, at / 8), 32 - at % 8 - width, width) as u32
 }
 
 // The bytes that `bits` bits take, the last one filled.

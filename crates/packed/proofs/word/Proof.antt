@@ -8,6 +8,12 @@ use Rattle.packed.proofs.word.Tie as tie
 sub-if1 : tie.Need-sub-if1
 sub-if1 c = search needs
 
+inner-word-requires : tie.Need-inner-word-requires
+inner-word-requires c κs = search needs
+
+returns : tie.Need-returns
+returns c = c .inner-word .ensures
+
 byte-requires : tie.Need-byte-requires
 byte-requires c κs = search needs
 
@@ -32,25 +38,21 @@ byte-requires-4 c κs = search needs
 join-requires : tie.Need-join-requires
 join-requires c κs = search needs
 
-returns : tie.Need-returns
-returns c =
+returns-2 : tie.Need-returns-2
+returns-2 c =
     omega (
       arith,
       field-word (c .before .before .before .before .before .before .before .args .s .now) (c .before .before .before .before .before .before .before .args .i)
           (λ j. c .before .before .before .before .before .before .shared-slice-known .given j .fits),
     )
 
-inner-word-requires : tie.Need-inner-word-requires
-inner-word-requires c κs = search needs
-
-returns-2 : tie.Need-returns-2
-returns-2 c = c .inner-word .ensures
-
 pub word-spec : {M : Type 1} → statement M
 word-spec =
     tie.close
     (tie.spec
     sub-if1
+    inner-word-requires
+    returns
     byte-requires
     add-byte
     byte-requires-2
@@ -59,6 +61,4 @@ word-spec =
     add-byte-3
     byte-requires-4
     join-requires
-    returns
-    inner-word-requires
     returns-2)

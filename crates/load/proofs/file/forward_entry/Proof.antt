@@ -12,17 +12,17 @@ use Rattle.load.proofs.file.forward_entry.Tie as tie
 edge-start-requires : tie.Need-edge-start-requires
 edge-start-requires c κs = search needs
 
-add-inner-field : tie.Need-add-inner-field
-add-inner-field c = search needs
+add-field : tie.Need-add-field
+add-field c = search needs
 
-inner-field-requires : tie.Need-inner-field-requires
-inner-field-requires c κs = search needs
+field-requires : tie.Need-field-requires
+field-requires c κs = search needs
 
 returns : tie.Need-returns
 returns c = (
-  c .inner-field .ensures ∙ ap (λ (at : ℕ). fieldAt (c .before .before .before .args .file .now) at 24) (omega arith) ∙ entry-field _ _,
-  rw (c .inner-field .ensures) (field-lt _ _ 24),
+  c .field .ensures ∙ ap (λ (at : ℕ). fieldAt (c .before .before .before .args .file .now) at 24) (omega arith) ∙ entry-field _ _,
+  rw (c .field .ensures) (field-lt _ _ 24),
 )
 
 pub forward-entry-spec : {M : Type 1} → statement M
-forward-entry-spec = tie.close (tie.spec edge-start-requires add-inner-field inner-field-requires returns)
+forward-entry-spec = tie.close (tie.spec edge-start-requires add-field field-requires returns)

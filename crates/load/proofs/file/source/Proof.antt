@@ -11,14 +11,14 @@ use Rattle.load.proofs.file.source.Tie as tie
 edge-start-requires : tie.Need-edge-start-requires
 edge-start-requires c κs = search needs
 
-inner-field-requires : tie.Need-inner-field-requires
-inner-field-requires c κs = search needs
+field-requires : tie.Need-field-requires
+field-requires c κs = search needs
 
 returns : tie.Need-returns
 returns c = (
-  c .inner-field .ensures ∙ ap (λ (at : ℕ). fieldAt (c .before .before .before .args .file .now) at 16) (omega arith),
-  rw (c .inner-field .ensures) (field-lt _ _ 16),
+  c .field .ensures ∙ ap (λ (at : ℕ). fieldAt (c .before .before .before .args .file .now) at 16) (omega arith),
+  rw (c .field .ensures) (field-lt _ _ 16),
 )
 
 pub source-spec : {M : Type 1} → statement M
-source-spec = tie.close (tie.spec edge-start-requires inner-field-requires returns)
+source-spec = tie.close (tie.spec edge-start-requires field-requires returns)
