@@ -77,23 +77,6 @@ fn judge_list(
     }
 }
 
-// A plan of any joins after so many other plans: it gives 17, or lists every match all the same.
-pub fn judge_joins(
-    g: &Graph,
-    store: &Store,
-    files: &Files,
-    with: Lent,
-    matches: &mut Matches,
-    plans: usize,
-    tally: &mut Tally,
-) {
-    let mut list = [runs::MARK; LIST_WORDS];
-    let a = runs::run(store, files, with, &mut list, tally);
-    let matched = ticks::are_matches(g, matches, add(plans, 1), a.rows, with.width, &list);
-    let refused = (a.refusal == 17) | (a.refusal == 20);
-    tally::judge(tally, tally::JOINS, refused | ((a.refusal == 0) & matched));
-}
-
 // All runs of the last of so many plans of a query; answers whether they were judged, and not too large for the scratch.
 pub fn judge_plan(
     g: &Graph,

@@ -12,7 +12,7 @@ mod worked;
 
 use libc::STDOUT_FILENO;
 
-const GRAPHS: usize = 1400;
+const GRAPHS: usize = 1500;
 
 const SEED: u64 = 88172645463325252;
 

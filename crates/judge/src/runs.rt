@@ -15,9 +15,11 @@ const MARGIN: usize = 8;
 
 pub const MAX_SCRATCH: usize = 16384;
 
+pub const MAX_LIST: usize = 16384;
+
 pub const STORE_WORDS: usize = 3072;
 
-pub const LIST_WORDS: usize = 16400;
+pub const LIST_WORDS: usize = MAX_LIST + MARGIN;
 
 pub const FILE_BYTES: usize = 128;
 

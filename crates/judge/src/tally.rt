@@ -14,21 +14,19 @@ pub const MATCHED: usize = 2;
 
 pub const PAIRS: usize = 3;
 
-pub const JOINS: usize = 4;
+pub const CACHE: usize = 4;
 
-pub const CACHE: usize = 5;
+pub const SCRATCH: usize = 5;
 
-pub const SCRATCH: usize = 6;
+pub const LIST: usize = 6;
 
-pub const LIST: usize = 7;
+pub const UNTOUCHED: usize = 7;
 
-pub const UNTOUCHED: usize = 8;
+pub const CLEARED: usize = 8;
 
-pub const CLEARED: usize = 9;
+pub const REFUSED: usize = 9;
 
-pub const REFUSED: usize = 10;
-
-pub const DAMAGED: usize = 11;
+pub const DAMAGED: usize = 10;
 
 // What the stream had.
 pub const GRAPHS: usize = 32;
@@ -86,7 +84,6 @@ fn print_rows(tally: &Tally) {
     print_kind(b"graphs and queries read", tally, READ);
     print_kind(b"rows against the matcher", tally, MATCHED);
     print_kind(b"two plans of a query", tally, PAIRS);
-    print_kind(b"plans of any joins", tally, JOINS);
     print_kind(b"cache on against off", tally, CACHE);
 }
 

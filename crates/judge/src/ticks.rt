@@ -20,11 +20,6 @@ pub const TOTAL: usize = 2 * MAX_MATCHES;
 // Above every row.
 const NO_ROW: usize = 4294967296;
 
-// How many matches there are.
-pub fn total(matches: &Matches) -> usize {
-    word(matches, TOTAL)
-}
-
 // The row of places at an index of the list; NO_ROW where a vertex has no place.
 fn row_at(g: &Graph, width: usize, list: &List, at: usize) -> usize {
     let mut row = 0;
@@ -41,7 +36,7 @@ fn row_at(g: &Graph, width: usize, list: &List, at: usize) -> usize {
 // An index so many matches on, if the match there is not above a row; else the index itself.
 fn not_above(matches: &Matches, row: usize, i: usize, more: usize) -> usize {
     let j = add(i, more);
-    if (j < total(matches)) & (word(matches, j) <= row) {
+    if (j < word(matches, TOTAL)) & (word(matches, j) <= row) {
         return j;
     }
     i
@@ -82,5 +77,5 @@ pub fn are_matches(
         }
         at = add(at, width);
     }
-    rows == total(matches)
+    rows == word(matches, TOTAL)
 }

@@ -1,4 +1,4 @@
-// A graph: up to 15 vertices that may have edges, named by their places, and spread over the numbers below N. It is one array: the
+// A graph: up to 16 vertices that may have edges, named by their places, and spread over the numbers below N. It is one array: the
 // words named below, then a cell for each source, label and target, in the file's order, which is 1 where the edge is there.
 use crate::bits::add;
 use crate::bits::bytes_for;

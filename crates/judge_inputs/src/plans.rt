@@ -54,24 +54,24 @@ fn extend(p: &mut Plan, q: &Query, seed: &mut u64) {
     if set & queries::only(v) != 0 {
         return;
     }
-    if set & queries::neighbours(q, v) != 0 {
+    if set & queries::next_to(q, v) != 0 {
         put(p, EXTEND + v, 1, set | queries::only(v));
     }
 }
 
-// The neighbours of v, where a set has it.
-fn neighbours_in(q: &Query, set: usize, v: usize) -> usize {
+// The vertices next to v, where a set has it.
+fn next_in(q: &Query, set: usize, v: usize) -> usize {
     if set & queries::only(v) == 0 {
         return 0;
     }
-    queries::neighbours(q, v)
+    queries::next_to(q, v)
 }
 
-// The neighbours of a set's vertices.
-fn neighbours_of_set(q: &Query, set: usize) -> usize {
+// The vertices next to those of a set.
+fn next_to_set(q: &Query, set: usize) -> usize {
     let mut found = 0;
     for v in 0..8usize {
-        found = found | neighbours_in(q, set, v);
+        found = found | next_in(q, set, v);
     }
     found
 }
@@ -79,17 +79,17 @@ fn neighbours_of_set(q: &Query, set: usize) -> usize {
 // Two results may be joined: they share a vertex, each has one that the other lacks, and no edge leads from these to those.
 fn may_join(q: &Query, a: usize, b: usize) -> bool {
     let shared = a & b;
-    let lost = neighbours_of_set(q, a ^ shared) & (b ^ shared);
+    let lost = next_to_set(q, a ^ shared) & (b ^ shared);
     (shared != 0) & (shared != a) & (shared != b) & (lost == 0)
 }
 
-// One more operator: mostly a join where it may be, or where any may be; a scan so many times of a hundred, else an extend.
-fn step(p: &mut Plan, q: &Query, any: bool, scans: usize, seed: &mut u64) {
+// One more operator: mostly a join where it may be, a scan so many times of a hundred, else an extend.
+fn step(p: &mut Plan, q: &Query, scans: usize, seed: &mut u64) {
     let a = set_under(p, 0);
     let b = set_under(p, 1);
     let joins = chance(seed, 80);
     let scans = chance(seed, scans);
-    if joins & (1 < p[DEPTH]) & (any | may_join(q, a, b)) {
+    if joins & (1 < p[DEPTH]) & may_join(q, a, b) {
         put(p, JOIN, 2, a | b);
         return;
     }
@@ -107,13 +107,13 @@ fn is_finished(p: &Plan, q: &Query) -> bool {
 
 // Random operators until the plan is finished. It starts again after as many steps as a plan has operators at most, and in the
 // second half a plan has one scan.
-fn make(p: &mut Plan, q: &Query, any: bool, seed: &mut u64) {
+fn make(p: &mut Plan, q: &Query, seed: &mut u64) {
     let scans = add(10, below(seed, 60));
     for i in 0..1000usize {
         if i % MAX_OPERATORS == 0 {
             *p = [0; WORDS];
         }
-        step(p, q, any, if i < 500 { scans } else { 0 }, seed);
+        step(p, q, if i < 500 { scans } else { 0 }, seed);
         if is_finished(p, q) {
             return;
         }
@@ -129,11 +129,10 @@ fn write_operator(file: &mut [u8], at: usize, operator: usize) -> usize {
     }
 }
 
-// Writes a random plan over zeros from a bit position on, and answers the bit position after it. Unless any join may be in it, the
-// plan is accepted.
-pub fn random(q: &Query, file: &mut [u8], from: usize, any: bool, seed: &mut u64) -> usize {
+// Writes a random accepted plan over zeros from a bit position on, and answers the bit position after it.
+pub fn random(q: &Query, file: &mut [u8], from: usize, seed: &mut u64) -> usize {
     let mut p = [0usize; WORDS];
-    make(&mut p, q, any, seed);
+    make(&mut p, q, seed);
     let mut at = put_field(file, from, 5, p[COUNT]);
     for i in 0..p[COUNT] % 32 {
         at = write_operator(file, at, p[OPERATORS + i % 32]);

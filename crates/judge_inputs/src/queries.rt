@@ -1,4 +1,4 @@
-// A query: one array with the words named below, for each vertex the set of its neighbours, the edges in the file's order, and a
+// A query: one array with the words named below, for each vertex the set of those next to it, the edges in the file's order, and a
 // cell for each from, to and label, which is 1 where the edge is there. An edge is the number of its cell.
 use crate::bits::add;
 use crate::bits::bytes_for;
@@ -24,7 +24,7 @@ const JOINED: usize = 3;
 
 const LISTED: usize = 4;
 
-const NEIGHBOURS: usize = 8;
+const NEXT_TO: usize = 8;
 
 const LIST: usize = 16;
 
@@ -61,9 +61,9 @@ pub fn label(q: &Query, v: usize) -> usize {
     graphs::vertex_label(q[LABELS], v)
 }
 
-// The vertices that an edge joins to v, in either direction, as a set.
-pub fn neighbours(q: &Query, v: usize) -> usize {
-    q[NEIGHBOURS + v % 8]
+// The set of the vertices that an edge joins to v.
+pub fn next_to(q: &Query, v: usize) -> usize {
+    q[NEXT_TO + v % 8]
 }
 
 // A query of n vertices without edges.
@@ -85,8 +85,8 @@ pub fn put_edge(q: &mut Query, edge: usize) {
     }
     q[cell] = 1;
     q[EDGES] = add(q[EDGES], 1);
-    q[NEIGHBOURS + s % 8] = neighbours(q, s) | only(t);
-    q[NEIGHBOURS + t % 8] = neighbours(q, t) | only(s);
+    q[NEXT_TO + s % 8] = next_to(q, s) | only(t);
+    q[NEXT_TO + t % 8] = next_to(q, t) | only(s);
 }
 
 // An edge between two vertices, in either direction.

@@ -8,7 +8,7 @@ use Rattle.judge_inputs.proofs.plans.random.Tie as tie
 
 pub random-spec : {M : Type 1} → statement M
 random-spec = tie.close (tie.spec
-    (λ q file₀ from any seed p at₀ i₀ i-end file at i. length file ≡ length file₀)
-    (λ q file₀ from any seed p at₀ i₀ i-end file at i. i-end - i)
+    (λ q file₀ from seed p at₀ i₀ i-end file at i. length file ≡ length file₀)
+    (λ q file₀ from seed p at₀ i₀ i-end file at i. i-end - i)
     (search needs) (search needs) (search needs) (search needs) (search needs) (search needs) (search needs) (search needs)
     (search needs) (search needs) (search needs) (search needs) (search needs) (search needs))
