@@ -34,7 +34,7 @@ refusals! {
     QueryShort = 6, "the query file is shorter than 2 bytes or than its own size";
     QueryLong = 7, "the query file is longer than its own size, or a fill bit is set";
     QueryLimits = 8, "the query has not 2 to 8 vertices and 1 to 24 edges";
-    QueryEdge = 9, "an edge of the query has a vertex that is not below the number of vertices, equal ends, or label 0";
+    QueryEdge = 9, "an edge of the query has a vertex that is not below the number of vertices, or equal ends";
     QueryOrder = 10, "the edges of the query do not ascend strictly";
     QueryApart = 11, "the query is not connected";
     PlanShort = 12, "the bits of the plan file run out";

@@ -3,7 +3,7 @@ mod judge;
 
 use judge::calls;
 use judge::plan;
-use judge::query::Query;
+use judge::query::{Query, QueryEdge};
 use judge::random::{each, Random};
 
 /// Compares the answer; answers the refusal.
@@ -91,9 +91,28 @@ fn limits_of_a_query() {
         let plan = plan::file(&[plan::Operator::Scan(0)]);
         for (n, m, want) in [(8, 7, 18), (8, 24, 18), (8, 25, 8), (8, 0, 8), (9, 8, 8), (2, 1, 0), (1, 1, 8), (0, 1, 8)]
         {
-            let edges = pairs.iter().take(m).map(|&(a, b)| (a, b, 1)).collect();
-            let query = Query { labels: vec![0; n], edges };
-            assert_eq!(compare(r, &query.file(), &plan), want, "{n} vertices, {m} edges");
+            for label in [1, 0, 255] {
+                let edges = pairs.iter().take(m).map(|&(a, b)| (a, b, label)).collect();
+                let query = Query { labels: vec![0; n], edges };
+                assert_eq!(compare(r, &query.file(), &plan), want, "{n} vertices, {m} edges of label {label}");
+            }
+        }
+    });
+}
+
+/// Every label between a pair, alone and with another after it: 0 is read like the others, and comes before them.
+#[test]
+fn labels_of_query_edges() {
+    each(0..1, |r| {
+        let plan = plan::file(&[plan::Operator::Scan(0)]);
+        for (one, two) in (0..=255).flat_map(|one| [0, 1, 2, 254, 255].map(|two| (one, two))) {
+            let query = |edges: &[QueryEdge]| Query { labels: vec![0; 2], edges: edges.to_vec() }.file();
+            assert_eq!(compare(r, &query(&[(0, 1, one)]), &plan), 0, "{one}");
+            let want = if one < two { 0 } else { 10 };
+            assert_eq!(compare(r, &query(&[(0, 1, one), (0, 1, two)]), &plan), want, "{one}, {two}");
+            assert_eq!(compare(r, &query(&[(1, 1, one)]), &plan), 9, "{one}");
+            assert_eq!(compare(r, &query(&[(0, 2, one)]), &plan), 9, "{one}");
+            assert_eq!(compare(r, &query(&[(7, 0, one)]), &plan), 9, "{one}");
         }
     });
 }

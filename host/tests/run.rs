@@ -102,11 +102,19 @@ fn large_graphs() {
     let mut rows = 0;
     each(0..40, |r| {
         let n = 1_000 + r.below(3_000);
-        let kinds = 1 + r.below(3);
+        let kinds = 1 + r.below(if r.chance(1, 4) { 255 } else { 3 });
         let end = |r: &Random| (n as f64 * (r.below(1 << 20) as f64 / (1u64 << 20) as f64).powi(3)) as u16;
         let edges = (0..4 * n).map(|_| (end(r), 1 + r.below(kinds) as u8, end(r))).collect();
         let graph = Graph::new(vec![0; n], edges);
-        let triangle = Query::new(vec![0; 3], vec![(0, 1, 1), (0, 2, 1), (1, 2, 1 + r.below(kinds) as u8)]);
+        let mut triangle = Query::new(vec![0; 3], vec![(0, 1, 1), (0, 2, 1), (1, 2, 1 + r.below(kinds) as u8)]);
+        if r.chance(1, 2) {
+            // Some edges of any label, or all; else one beside the edge of its pair.
+            match r.below(3) {
+                0 => triangle.edges.iter_mut().for_each(|edge| edge.2 = 0),
+                1 => triangle.edges.iter_mut().filter(|_| r.chance(1, 2)).for_each(|edge| edge.2 = 0),
+                _ => triangle.edges.insert(1, (0, 2, 0)),
+            }
+        }
         let operators = plan::random(r, &triangle);
         let cache = r.chance(1, 2);
         let Some(want) = rules::run(&Matcher::new(&graph), &triangle, &operators, cache, 1 << 21) else { return };

@@ -4,7 +4,7 @@ mod judge;
 use judge::graph::Graph;
 use judge::plan::{self, Operator};
 use judge::query::Query;
-use judge::worked::{diamond, g, graph, k, triangle};
+use judge::worked::{diamond, doubled, g, graph, k, triangle};
 use trace::{Buffers, Cache, Refusal, Store};
 use Operator::{Extend, Join, Scan};
 
@@ -47,6 +47,16 @@ fn the_worked_cases() {
     assert_eq!(run(&k(), &diamond(), &deep, on), (rows, 28, 0, 0));
     assert_eq!(run(&graph(1, &[(0, 0)]), &triangle(), &[Scan(0), Extend(2)], on), (vec![vec![0, 0, 0]], 2, 0, 0));
     assert_eq!(run(&graph(0, &[]), &triangle(), &[Scan(0), Extend(2)], on), (vec![], 0, 0, 0));
+}
+
+/// G's triangles where two pairs have two labels each, and the pattern asks for none.
+#[test]
+fn any_label() {
+    let any = Query::any(3, &[(0, 1), (0, 2), (1, 2)]);
+    let rows = vec![vec![0, 1, 2], vec![1, 2, 3]];
+    assert_eq!(run(&doubled(), &any, &[Scan(0), Extend(2)], Cache::Off), (rows.clone(), 18, 0, 0));
+    assert_eq!(run(&doubled(), &any, &[Scan(0), Extend(2)], Cache::On), (rows, 18, 0, 0));
+    assert_eq!(run(&doubled(), &triangle(), &[Scan(0), Extend(2)], Cache::On), (vec![], 6, 0, 0));
 }
 
 #[test]

@@ -15,7 +15,8 @@
  * The three files are packed bit by bit, most significant first, and zero bits fill the last byte:
  *
  *   graph  N (16 bits), M (20), N vertex labels (16), M edges of source (16), label (8), target (16), strictly ascending;
- *   query  n (4 bits, 2 to 8), m (5, 1 to 24), n vertex labels (16, 0 fits all), m edges of from (3), to (3), label (8);
+ *   query  n (4 bits, 2 to 8), m (5, 1 to 24), n vertex labels (16, 0 fits all), m edges of from (3), to (3), label (8,
+ *          0 is any label);
  *   plan   operator count (5 bits), then operators of a kind (2 bits): 0 scan of a query edge's index (5), 1 extend by a query
  *          vertex (3), 2 join.
  */
@@ -40,7 +41,7 @@ enum trace_refusal {
     TRACE_QUERY_SHORT = 6,          /* the query file is shorter than 2 bytes or than its own size */
     TRACE_QUERY_LONG = 7,           /* it is longer than its own size, or a fill bit is set */
     TRACE_QUERY_LIMITS = 8,         /* it has not 2 to 8 vertices and 1 to 24 edges */
-    TRACE_QUERY_EDGE = 9,           /* an edge has a vertex not below n, equal ends, or label 0 */
+    TRACE_QUERY_EDGE = 9,           /* an edge has a vertex not below n, or equal ends */
     TRACE_QUERY_ORDER = 10,         /* the edges do not ascend strictly */
     TRACE_QUERY_APART = 11,         /* the query is not connected */
     TRACE_PLAN_SHORT = 12,          /* the plan file's bits run out */

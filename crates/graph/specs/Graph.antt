@@ -1,5 +1,5 @@
 -- A labelled graph: 'items are vertices, connections labelled edges'. Assumes nothing.
-use mathlib.Core.Bool.{Bool, _&&_}
+use mathlib.Core.Bool.{Bool, _&&_, _||_}
 use mathlib.Core.List.{List}
 use Prim.Native.Nat.{ℕ, _+_, _*_}
 use lib.Dec.{eqb}
@@ -58,11 +58,11 @@ entry d e = e .label * entrySpan + far d e
 abbrev pub key : Direction → Edge → ℕ
 key d e = near d e * entryEnd + entry d e
 
--- Which edge labels the portion for a query's label covers: its equal.
+-- Which edge labels a query's label covers: label 0 'means any label', another its equal.
 unfoldable pub covers : ℕ → ℕ → Bool
-covers l k = eqb k l
+covers l k = eqb l 0 || eqb k l
 
--- 'The file has an edge of its label, from the number of its first end to that of its second.'
+-- 'The file has an edge of its label', or of any where that is 0, 'from the number of its first end to that of its second'.
 unfoldable pub linked : Graph → ℕ → ℕ → ℕ → Bool
 linked g l x y = any (λ (e : Edge). eqb (e .source) x && covers l (e .label) && eqb (e .target) y) (g .edges)
 

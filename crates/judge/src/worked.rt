@@ -53,9 +53,9 @@ fn judge_refused(n: usize, m: usize, tally: &mut Tally) {
 pub fn judge_cases(seed: &mut u64, tally: &mut Tally) {
     let mut q = [0usize; queries::WORDS];
     // The path through 8 vertices.
-    set_query(&mut q, 8, 7, 4, 36);
+    set_query(&mut q, 8, 7, 5, 36);
     judge_accepted(&q, 7, seed, tally);
-    // All edges of four labels from vertices 0 and 1 of four.
+    // All edges of three labels and of any from vertices 0 and 1 of four.
     set_query(&mut q, 4, 24, 0, 1);
     judge_accepted(&q, 24, seed, tally);
     judge_refused(9, 9, tally);

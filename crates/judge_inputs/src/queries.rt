@@ -47,9 +47,30 @@ pub fn target(edge: usize) -> usize {
     edge / 4 % 8
 }
 
-// The index of the edge's label.
-pub fn label_index(edge: usize) -> usize {
+// The index of the edge's label: 0 is any label, others are one more than the graph's.
+fn label_index(edge: usize) -> usize {
     edge % 4
+}
+
+// The label that the file has for an index.
+fn edge_label(l: usize) -> usize {
+    let labels = [
+        0,
+        graphs::edge_label(0),
+        graphs::edge_label(1),
+        graphs::edge_label(2),
+    ];
+    labels[l % 4]
+}
+
+// The graph has the edge between two places.
+pub fn holds(g: &Graph, s: usize, edge: usize, t: usize) -> bool {
+    let first = graphs::has(g, s, 0, t);
+    let second = graphs::has(g, s, 1, t);
+    let third = graphs::has(g, s, 2, t);
+    let fourth = graphs::has(g, s, 3, t);
+    let held = [first | second | third | fourth, first, second, third];
+    held[label_index(edge) % 4]
 }
 
 // The edge of an index.
@@ -89,21 +110,29 @@ pub fn put_edge(q: &mut Query, edge: usize) {
     q[NEXT_TO + t % 8] = next_to(q, t) | only(s);
 }
 
+// The index of a label: that of any, in a fifth, or one of a few.
+fn random_label(most: usize, seed: &mut u64) -> usize {
+    if chance(seed, 20) {
+        return 0;
+    }
+    add(below(seed, add(most, 1)), 1) % 4
+}
+
 // An edge between two vertices, in either direction.
 fn random_edge(a: usize, b: usize, seed: &mut u64) -> usize {
     let most = below(seed, 3);
-    let l = below(seed, add(most, 1)) % 4;
+    let l = random_label(most, seed);
     if chance(seed, 50) {
-        return a % 8 * 32 + b % 8 * 4 + l;
+        return a % 8 * 32 + b % 8 * 4 + l % 4;
     }
-    b % 8 * 32 + a % 8 * 4 + l
+    b % 8 * 32 + a % 8 * 4 + l % 4
 }
 
 // Adds an edge if it may be any, or else if the graph has it between the places of its ends; answers whether it did.
 fn try_edge(q: &mut Query, g: &Graph, row: &[usize; 8], edge: usize, any: bool) -> bool {
     let s = row[source(edge) % 8];
     let t = row[target(edge) % 8];
-    if any | graphs::has(g, s, label_index(edge), t) {
+    if any | holds(g, s, edge, t) {
         put_edge(q, edge);
         return true;
     }
@@ -170,7 +199,7 @@ fn write_edge(q: &mut Query, cell: usize, file: &mut [u8], at: usize) -> usize {
     q[LISTED] = add(q[LISTED], 1);
     let to = put_field(file, at, 3, source(cell));
     let label = put_field(file, to, 3, target(cell));
-    put_field(file, label, 8, graphs::edge_label(label_index(cell)))
+    put_field(file, label, 8, edge_label(label_index(cell)))
 }
 
 fn write_edges(q: &mut Query, file: &mut [u8], from: usize) -> usize {

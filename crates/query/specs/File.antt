@@ -59,9 +59,9 @@ outsideLimits s =
 abbrev pub fileSize : List ℕ → ℕ
 fileSize s = bytesFor (edgeStart s (edgeCount s))
 
--- '9 a vertex not below n, equal ends or label 0.' No other edge label is turned away.
+-- '9 a vertex not below n, equal ends.' No edge label is turned away.
 abbrev pub badEdge : ℕ → Edge → Bool
-badEdge n e = not (ltb (e .source) n && ltb (e .target) n) || eqb (e .source) (e .target) || eqb (e .label) 0
+badEdge n e = not (ltb (e .source) n && ltb (e .target) n) || eqb (e .source) (e .target)
 
 -- (from, to, label) as one number.
 abbrev pub key : Edge → ℕ
@@ -72,7 +72,7 @@ abbrev pub ascends : List ℕ → ℕ → Bool
 ascends s zero = true
 ascends s (suc i) = ltb (key (edgeIn s i)) (key (edgeIn s (suc i)))
 
--- '9 a vertex not below n, equal ends or label 0, 10 not ascending', of one edge.
+-- '9 a vertex not below n, equal ends, 10 not ascending', of one edge.
 abbrev pub edgeFault : List ℕ → ℕ → ℕ
 edgeFault s i = first (refuse 9 (badEdge (vertexCount s) (edgeIn s i)) ∷ refuse 10 (not (ascends s i)) ∷ [])
 

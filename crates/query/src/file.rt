@@ -80,7 +80,7 @@ fn edge_key(file: &[u8], at: usize) -> u32
     field(file, at, 14)
 }
 
-// 9 where the edge at a bit position has a vertex not below n, equal ends or label 0; 10 where its key is below the least that
+// 9 where the edge at a bit position has a vertex not below n or equal ends; 10 where its key is below the least that
 // ascends; else 0.
 fn edge_fault(file: &[u8], at: usize, n: usize, least: u32) -> u32
     requires { ⌜ (at + 14 ≤ bitsIn (now file)) × (at + 14 < 2 ^ 64) ⌝ }
@@ -95,9 +95,6 @@ fn edge_fault(file: &[u8], at: usize, n: usize, least: u32) -> u32
         return 9;
     }
     if from == to {
-        return 9;
-    }
-    if field(file, at + 6, 8) == 0 {
         return 9;
     }
     if edge_key(file, at) < least {

@@ -3,16 +3,16 @@
 use mathlib.Core.Path.{_≡_, refl, sym, _∙_, ap}
 use mathlib.Core.Bool.{Bool, true, not, _&&_}
 use mathlib.Core.List.{List, [], _∷_, _++_, map-id}
-use Prim.Native.Nat.{ℕ, _+_, _-_, _*_, _/_, _≤_, _<_, zero-le}
+use Prim.Native.Nat.{ℕ, zero, suc, _+_, _-_, _*_, _/_, _≤_, _<_, zero-le}
 use native.Mathlib.Nat.{zero-add}
 use native.Mathlib.Omega.{arith}
 use lib.Dec.{eqb, ltb}
 use lib.ListN.{length, getD, take, drop, length-drop}
 use lib.Seq.{take-at, drop-at, take-all}
-use borrow.Author.Tests.{eqb-true, eq-eqb, ltb-true, ltb-false, lt-ltb, le-ltb}
+use borrow.Author.Tests.{eqb-true, eq-eqb, ne-eqb, ltb-true, ltb-false, lt-ltb, le-ltb}
 use Rattle.lists.specs.Lists.{keep, ascending}
 use Rattle.lists.proofs.Tests.{iff, and-l, and-r, and-both, not-true}
-use Rattle.lists.proofs.All.{keep-keep, keep-ext}
+use Rattle.lists.proofs.All.{keep-all, all-true, keep-keep, keep-ext}
 use Rattle.lists.proofs.Count.{length-keep}
 use Rattle.lists.proofs.Cut.{cut}
 use Rattle.graph.specs.Graph.{covers}
@@ -55,11 +55,17 @@ unfolding keep
 keep-empty p [] h = refl
 keep-empty p (k ∷ s) h = absurd (omega arith)
 
--- A label covers the entries from its first to the next label's.
-covers-span : (l k : ℕ) → (not (ltb k (l * 65536)) && ltb k (l * 65536 + 65536)) ≡ covers l (k / 65536)
+-- Label 0 covers every entry.
+pub any-covered : (s : List ℕ) → s ≡ keep (λ (k : ℕ). covers 0 (k / 65536)) s
 unfolding covers
-covers-span l k =
-    iff (not (ltb k (l * 65536)) && ltb k (l * 65536 + 65536)) (eqb (k / 65536) l)
+any-covered s = sym (keep-all (λ (k : ℕ). true) s (all-true s))
+
+-- Another label covers the entries from its first to the next label's.
+covers-span : (l k : ℕ) → 0 < l → (not (ltb k (l * 65536)) && ltb k (l * 65536 + 65536)) ≡ covers l (k / 65536)
+unfolding covers
+covers-span l k some =
+    rw (ne-eqb l 0 (omega arith))
+    (iff (not (ltb k (l * 65536)) && ltb k (l * 65536 + 65536)) (eqb (k / 65536) l)
     (λ t.
     let a : l * 65536 ≤ k = ltb-false k (l * 65536) (not-true (ltb k (l * 65536)) (and-l (not (ltb k (l * 65536))) (ltb k (l * 65536 + 65536)) t)) in
     let b : k < l * 65536 + 65536 = ltb-true k (l * 65536 + 65536) (and-r (not (ltb k (l * 65536))) (ltb k (l * 65536 + 65536)) t) in
@@ -67,18 +73,19 @@ covers-span l k =
     (λ t.
     let i : k / 65536 ≡ l = eqb-true (k / 65536) l t in
     and-both (not (ltb k (l * 65536))) (ltb k (l * 65536 + 65536))
-    (ap not (le-ltb k (l * 65536) (omega arith))) (lt-ltb k (l * 65536 + 65536) (omega arith)))
+    (ap not (le-ltb k (l * 65536) (omega arith))) (lt-ltb k (l * 65536 + 65536) (omega arith))))
 
-pub cut-covers : (l : ℕ) (s : List ℕ)
+pub cut-covers : (l : ℕ) (s : List ℕ) → 0 < l
     → keep (λ (k : ℕ). ltb k (l * 65536 + 65536)) (keep (λ (k : ℕ). not (ltb k (l * 65536))) s) ≡ keep (λ (k : ℕ). covers l (k / 65536)) s
-cut-covers l s =
+cut-covers l s some =
     keep-keep (λ (k : ℕ). ltb k (l * 65536 + 65536)) (λ (k : ℕ). not (ltb k (l * 65536))) s
-    ∙ keep-ext _ (λ (k : ℕ). covers l (k / 65536)) s (covers-span l)
+    ∙ keep-ext _ (λ (k : ℕ). covers l (k / 65536)) s (λ k. covers-span l k some)
 
 -- The whole list is covered where its first word and its last one are.
 pub all-covered : (l : ℕ) (s : List ℕ) → ascending s ≡ true → 0 < length s
     → l * 65536 ≤ getD s 0 0 → getD s (length s - 1) 0 < l * 65536 + 65536 → s ≡ keep (λ (k : ℕ). covers l (k / 65536)) s
-all-covered l s up h a b =
-    all-below s up (l * 65536 + 65536) h b
-    ∙ ap (keep (λ (k : ℕ). ltb k (l * 65536 + 65536))) (none-below s up (l * 65536) h a)
-    ∙ cut-covers l s
+all-covered zero s up h a b = any-covered s
+all-covered (suc l) s up h a b =
+    all-below s up (suc l * 65536 + 65536) h b
+    ∙ ap (keep (λ (k : ℕ). ltb k (suc l * 65536 + 65536))) (none-below s up (suc l * 65536) h a)
+    ∙ cut-covers (suc l) s (omega arith)

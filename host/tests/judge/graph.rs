@@ -106,7 +106,8 @@ impl Graph {
         (words.len() >= store.len() && words[..store.len()] == store).then_some(graph)
     }
 
-    /// A graph with up to so many vertices, dense or sparse, with few labels or many, sometimes with a hub.
+    /// A graph with up to so many vertices, dense or sparse, with few labels or many, sometimes with a hub. Every other one has pairs
+    /// that further labels join, and some of these a pair that many do.
     pub fn random(r: &Random, most: usize) -> Graph {
         let n = r.below(most + 1);
         let labels = (0..n).map(|_| r.below(3) as u16).collect();
@@ -117,7 +118,17 @@ impl Graph {
             Some(v) if r.chance(1, 3) => v as u16,
             _ => r.below(n) as u16,
         };
-        let edges = (0..count).map(|_| (end(r), 1 + r.below(kinds) as u8, end(r))).collect();
+        let mut edges: Vec<Edge> = (0..count).map(|_| (end(r), 1 + r.below(kinds) as u8, end(r))).collect();
+        if count > 0 && r.chance(1, 2) {
+            for _ in 0..r.below(count + 3) {
+                let (source, _, target) = edges[r.below(edges.len())];
+                edges.push((source, 1 + r.below(kinds.max(3)) as u8, target));
+            }
+            if r.chance(1, 4) {
+                let (source, target) = (end(r), end(r));
+                edges.extend((0..r.below(60)).map(|_| (source, 1 + r.below(255) as u8, target)));
+            }
+        }
         Graph::new(labels, edges)
     }
 }

@@ -5,6 +5,7 @@
 pub mod bits;
 pub mod calls;
 pub mod graph;
+pub mod in_words;
 pub mod matcher;
 pub mod plan;
 pub mod program;

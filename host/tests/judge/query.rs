@@ -2,7 +2,7 @@
 use super::bits::{pack, Reader};
 use super::random::Random;
 
-/// An edge: from, to, label.
+/// An edge: from, to, label; 0 is any label.
 pub type QueryEdge = (usize, usize, u8);
 
 #[derive(Clone, Debug, PartialEq, Eq)]
@@ -21,6 +21,11 @@ impl Query {
     /// Unlabelled, with edges of label 1.
     pub fn plain(n: usize, pairs: &[(usize, usize)]) -> Query {
         Query::new(vec![0; n], pairs.iter().map(|&(a, b)| (a, b, 1)).collect())
+    }
+
+    /// Unlabelled, with edges of any label.
+    pub fn any(n: usize, pairs: &[(usize, usize)]) -> Query {
+        Query::new(vec![0; n], pairs.iter().map(|&(a, b)| (a, b, 0)).collect())
     }
 
     pub fn vertices(&self) -> usize {
@@ -53,8 +58,8 @@ impl Query {
             return Err(7);
         }
         for (i, &edge) in edges.iter().enumerate() {
-            let (from, to, label) = edge;
-            if from >= n || to >= n || from == to || label == 0 {
+            let (from, to, _) = edge;
+            if from >= n || to >= n || from == to {
                 return Err(9);
             }
             if i > 0 && edges[i - 1] >= edge {
@@ -84,22 +89,32 @@ impl Query {
         self.edges.iter().any(|&(a, b, _)| a == v && set.contains(&b) || b == v && set.contains(&a))
     }
 
-    /// A connected query: a tree, and some edges more; labelled or not; seldom with many vertices.
+    /// A connected query: a tree, and some edges more; labelled or not; seldom with many vertices. Every other one has no edge of
+    /// any label; in the others half the edges are, and some pairs have such an edge and one of a label beside it.
     pub fn random(r: &Random, most: usize) -> Query {
         let n = 2 + r.below(if r.chance(1, 4) { most - 1 } else { 3.min(most - 1) });
         let kinds = if r.chance(1, 2) { 1 } else { 3 };
         let labelled = r.chance(1, 3);
         let labels = (0..n).map(|_| if labelled && r.chance(1, 2) { 1 + r.below(2) as u16 } else { 0 }).collect();
+        let any = r.chance(1, 2);
+        let definite = |r: &Random| 1 + r.below(kinds) as u8;
+        let label = |r: &Random| if any && r.chance(1, 2) { 0 } else { definite(r) };
         let mut edges = Vec::new();
         for v in 1..n {
             let u = r.below(v);
             let (from, to) = if r.chance(1, 2) { (u, v) } else { (v, u) };
-            edges.push((from, to, 1 + r.below(kinds) as u8));
+            edges.push((from, to, label(r)));
         }
         for _ in 0..r.below(n + 2) {
             let (from, to) = (r.below(n), r.below(n));
             if from != to {
-                edges.push((from, to, 1 + r.below(kinds) as u8));
+                edges.push((from, to, label(r)));
+            }
+        }
+        if any && r.chance(1, 3) {
+            for _ in 0..1 + r.below(3) {
+                let (from, to, label) = edges[r.below(edges.len())];
+                edges.push((from, to, if label == 0 { definite(r) } else { 0 }));
             }
         }
         Query::new(labels, edges)

@@ -1,4 +1,4 @@
-//! The graphs and queries of the document's worked cases.
+//! The graphs and queries of the document's worked cases, and two graphs for edges of any label.
 use super::graph::Graph;
 use super::query::Query;
 
@@ -13,6 +13,16 @@ pub fn g() -> Graph {
 
 pub fn k() -> Graph {
     graph(5, &[(0, 2), (0, 3), (1, 2), (1, 3), (2, 3), (2, 4), (3, 4)])
+}
+
+/// G's pairs, of which 0→1 and 1→2 have two labels each. By labels the list of 0 is 1, 2, 1, and that of 1 is 3, 2, 2.
+pub fn doubled() -> Graph {
+    Graph::new(vec![0; 4], vec![(0, 1, 1), (0, 1, 2), (0, 2, 1), (1, 1, 3), (1, 2, 2), (1, 3, 2), (2, 2, 3)])
+}
+
+/// One pair, 0→1, of every label.
+pub fn bundle() -> Graph {
+    Graph::new(vec![0; 2], (1..=255).map(|label| (0, label, 1)).collect())
 }
 
 /// Q.

@@ -4,7 +4,7 @@ use std::collections::HashMap;
 use std::iter::repeat;
 use std::ops::RangeInclusive;
 
-use crate::edge::{Edge, Limits, EDGE_LABELS, VERTEX_LABELS};
+use crate::edge::{Edge, Limits, ANY, ANY_LABEL, EDGE_LABELS, VERTEX_LABELS};
 use crate::text::{Note, Section};
 
 /// A section as far as it was read: vertices in the order of their lines, edges in any order.
@@ -49,7 +49,7 @@ impl Drawing {
                 self.add_vertices(counted(count)?, labelled(l)?, limits)
             }
             [source, arrow, target] if is_arrow(arrow) => {
-                let edge = self.edge(source, arrow, target)?;
+                let edge = self.edge(source, arrow, target, limits)?;
                 self.add_edge(line, edge, limits)
             }
             _ => Err(EXPECTED.into()),
@@ -90,12 +90,18 @@ impl Drawing {
     }
 
     /// The edge that three words name.
-    pub fn edge(&self, source: &str, arrow: &str, target: &str) -> Result<Edge, String> {
+    pub fn edge(
+        &self,
+        source: &str,
+        arrow: &str,
+        target: &str,
+        limits: &Limits,
+    ) -> Result<Edge, String> {
         let label = arrow.strip_prefix('-').and_then(|a| a.strip_suffix("->"));
         let label = label.ok_or_else(|| format!("'{arrow}' is no arrow -LABEL->"))?;
         Ok(Edge {
             source: self.vertex(source)?,
-            label: number("edge label", label, EDGE_LABELS)?,
+            label: edge_label(label, limits)?,
             target: self.vertex(target)?,
         })
     }
@@ -136,6 +142,19 @@ fn check_name(name: &str) -> Result<(), String> {
         return Err(format!("'{name}' is a word of the text form and no name"));
     }
     Ok(())
+}
+
+/// The label that the word in an arrow names. Any label is a word and not 0, so that it stands in a
+/// text only where it is meant.
+fn edge_label(word: &str, limits: &Limits) -> Result<u32, String> {
+    match (word, limits.any_label) {
+        (ANY, true) => Ok(ANY_LABEL),
+        (ANY, false) => Err(format!(
+            "'{ANY}' is for query edges; a graph edge has a label"
+        )),
+        ("0", true) => Err(format!("for an edge of any label write '{ANY}', not 0")),
+        _ => number("edge label", word, EDGE_LABELS),
+    }
 }
 
 /// The decimal number of a word, within a range.

@@ -16,6 +16,7 @@ impl Graph {
         vertices: 0..=65_535,
         edges: 0..=1_048_575,
         loops: true,
+        any_label: false,
     };
 
     pub fn new(labels: Vec<u32>, mut edges: Vec<Edge>) -> Self {
@@ -50,11 +51,12 @@ impl Graph {
             return Err(FileFault::new(2, "a fill bit is set"));
         }
         for (i, e) in edges.iter().enumerate() {
+            if e.label == 0 {
+                let ends = format!("from {} to {}", e.source, e.target);
+                return Err(FileFault::new(3, format!("edge {ends}: label 0")));
+            }
             if e.source.max(e.target) as usize >= labels.len() {
                 return Err(FileFault::new(3, format!("edge {e}: no such vertex")));
-            }
-            if e.label == 0 {
-                return Err(FileFault::new(3, format!("edge {e}: label 0")));
             }
             if i > 0 && key(&edges[i - 1]) >= key(e) {
                 return Err(FileFault::new(4, format!("edge {e} does not ascend")));

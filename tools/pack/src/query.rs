@@ -4,8 +4,8 @@
 use crate::bits::{BitReader, BitWriter};
 use crate::edge::{Edge, FileFault, Limits};
 
-/// A pattern. Vertex v has label `labels[v]`, where 0 fits every data vertex; the edges ascend by
-/// (from, to, label).
+/// A pattern. Vertex v has label `labels[v]`, where 0 fits every data vertex, and an edge of label 0
+/// fits every data edge; the edges ascend by (from, to, label).
 #[derive(Clone, Debug, PartialEq, Eq)]
 pub struct Query {
     pub labels: Vec<u32>,
@@ -17,6 +17,7 @@ impl Query {
         vertices: 2..=8,
         edges: 1..=24,
         loops: false,
+        any_label: true,
     };
 
     pub fn new(labels: Vec<u32>, mut edges: Vec<Edge>) -> Self {
@@ -65,9 +66,6 @@ impl Query {
             }
             if e.source == e.target {
                 return Err(FileFault::new(9, format!("edge {e}: equal ends")));
-            }
-            if e.label == 0 {
-                return Err(FileFault::new(9, format!("edge {e}: label 0")));
             }
             if i > 0 && key(&edges[i - 1]) >= key(e) {
                 return Err(FileFault::new(10, format!("edge {e} does not ascend")));

@@ -151,7 +151,7 @@ fn read_operator(words: &[&str], drawing: &Drawing, query: &Query) -> Result<Ope
             Ok(Operator::Scan(number("query edge", index, 0..=last)?))
         }
         ["scan", source, arrow, target] => {
-            let edge = drawing.edge(source, arrow, target)?;
+            let edge = drawing.edge(source, arrow, target, &Query::LIMITS)?;
             match query.edges.iter().position(|&e| e == edge) {
                 Some(i) => Ok(Operator::Scan(i as u32)),
                 None => Err(format!("the query has no edge {source} {arrow} {target}")),

@@ -52,6 +52,20 @@ fn packs_beside_the_text_and_elsewhere() {
 }
 
 #[test]
+fn an_edge_of_any_label_comes_back() {
+    let dir = folder("any");
+    let text = TEXT.replace("0 -1-> 1\n[plan]", "0 -any-> 1\n0 -1-> 1\n[plan]");
+    let text = text.replace("scan 0 -1-> 1", "scan 0 -any-> 1");
+    fs::write(dir.join("hang.txt"), &text).unwrap();
+    assert_eq!(told(pack(&dir, &["hang.txt"])), says(0, "", ""));
+    assert_eq!(told(unpack(&dir, &["."])), says(0, &text, ""));
+    fs::write(dir.join("bad.txt"), text.replace("-any->", "-0->")).unwrap();
+    let message = "bad.txt:6: for an edge of any label write 'any', not 0\n";
+    assert_eq!(told(pack(&dir, &["bad.txt"])), says(1, "", message));
+    assert_eq!(told(unpack(&dir, &["."])), says(0, &text, ""));
+}
+
+#[test]
 fn a_missing_section_leaves_its_file() {
     let dir = folder("section");
     fs::write(dir.join("hang.txt"), TEXT).unwrap();

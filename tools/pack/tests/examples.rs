@@ -26,7 +26,7 @@ fn files(example: &Path) -> Files {
 #[test]
 fn examples_round_trip() {
     let examples = examples();
-    assert!(examples.len() >= 4);
+    assert!(examples.len() >= 5);
     for example in examples {
         let packed = parse(&text(&example)).unwrap().hang;
         assert_eq!(packed.to_files(), files(&example), "{example:?}");

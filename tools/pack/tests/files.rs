@@ -70,8 +70,26 @@ fn queries() {
     assert_eq!(refusal(query("20 80 00 00 00 04 02")), 9);
     assert_eq!(refusal(query("20 80 00 00 00 20 02")), 9);
     assert_eq!(refusal(query("20 80 00 00 00 00 02")), 9);
-    assert_eq!(refusal(query("20 80 00 00 00 02 00")), 9);
+    // An edge of label 0 is one of any label; its ends are as for the others.
+    assert!(query("20 80 00 00 00 02 00").is_ok());
+    assert_eq!(refusal(query("20 80 00 00 00 04 00")), 9);
+    assert_eq!(refusal(query("20 80 00 00 00 00 00")), 9);
     assert_eq!(refusal(query("21 00 00 00 00 02 02 08 08")), 10);
+    assert_eq!(refusal(query("21 00 00 00 00 02 02 08 00")), 10);
+    assert_eq!(refusal(query("21 00 00 00 00 02 00 08 00")), 10);
+    assert!(query("21 00 00 00 00 02 00 08 08").is_ok());
+}
+
+/// The graph's own label 0 stays refused, and is not called any label.
+#[test]
+fn label_0() {
+    let fault = graph("0001 00001 0000 0000000000 0").unwrap_err();
+    assert_eq!(fault.to_string(), "edge from 0 to 0: label 0 (refusal 3)");
+    let fault = graph("0001 00001 0000 0000000001 0").unwrap_err();
+    assert_eq!(fault.to_string(), "edge from 0 to 1: label 0 (refusal 3)");
+    let any = query("20 80 00 00 00 02 00").unwrap();
+    assert_eq!(any.edges[0].to_string(), "0 -any-> 1");
+    assert_eq!(any.to_bytes(), bytes("20 80 00 00 00 02 00"));
 }
 
 #[test]

@@ -62,6 +62,46 @@ fn scans_by_index_and_by_edge() {
 }
 
 #[test]
+fn edges_of_any_label() {
+    let text = "[query]\nvertex any\nvertex b\nvertices 1\n\
+                b -255-> 2\nb -any-> 2\nany -1-> b\nany -any-> b\n\
+                [plan]\nscan b -any-> 2\nscan any -any-> b\nscan 1\njoin\njoin\n";
+    let hang = parse(text.as_bytes()).unwrap().hang;
+    let query = hang.query.as_ref().unwrap();
+    let edges = [edge(0, 0, 1), edge(0, 1, 1), edge(1, 0, 2), edge(1, 255, 2)];
+    assert_eq!(query.edges, edges);
+    use Operator::{Join, Scan};
+    let plan = hang.plan.as_ref().unwrap();
+    assert_eq!(plan.operators, [Scan(2), Scan(0), Scan(1), Join, Join]);
+    let unpacked = "[query]\nvertices 3 label 0  # 0 to 2\n\
+                    0 -any-> 1\n0 -1-> 1\n1 -any-> 2\n1 -255-> 2\n\
+                    [plan]\nscan 1 -any-> 2\nscan 0 -any-> 1\nscan 0 -1-> 1\njoin\njoin\n";
+    assert_eq!(hang.to_string(), unpacked);
+    assert_eq!(parse(unpacked.as_bytes()).unwrap().hang, hang);
+}
+
+#[test]
+fn faulty_labels_of_query_edges() {
+    for (line, message) in [
+        ("0 -0-> 1", "for an edge of any label write 'any', not 0"),
+        ("0 -256-> 1", "edge label 256 is not within 1 to 255"),
+        ("0 -Any-> 1", "edge label 'Any' is no number"),
+        ("0 --> 1", "edge label '' is no number"),
+        ("0 any-> 1", "'any->' is no arrow -LABEL->"),
+        ("0 -any-> 0", "a query edge joins two different vertices"),
+        ("0 -any-> 9", "no vertex '9' has been declared"),
+        ("1 -any-> 0", "the edge stands at line 3 already"),
+    ] {
+        let text = format!("[query]\nvertices 2\n1 -any-> 0\n{line}\n");
+        assert_eq!(refused(&text), format!("4: {message}"));
+    }
+    let scan = "7: the query has no edge 0 -any-> 1";
+    assert_eq!(refused(&plan("scan 0 -any-> 1")), scan);
+    let scan = "7: for an edge of any label write 'any', not 0";
+    assert_eq!(refused(&plan("scan 0 -0-> 1")), scan);
+}
+
+#[test]
 fn faulty_sections() {
     let expected = "expected [graph], [query] or [plan]";
     for (text, message) in [
@@ -126,6 +166,10 @@ fn faulty_graph_lines() {
         ),
         ("0 -1-> truss", "no vertex 'truss' has been declared".into()),
         ("0 -0-> pin", "edge label 0 is not within 1 to 255".into()),
+        (
+            "0 -any-> pin",
+            "'any' is for query edges; a graph edge has a label".into(),
+        ),
         (
             "0 -256-> pin",
             "edge label 256 is not within 1 to 255".into(),

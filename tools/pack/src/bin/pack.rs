@@ -25,7 +25,7 @@ The text has up to three sections; the file of a section that is missing is left
     vertex b label 7
     vertex c
     a -5-> b
-    c -5-> b
+    c -any-> b              # an edge of any label
     [plan]                  # of the [query] in the same text
     scan a -5-> b           # a query edge, or its index in ascending order: scan 0
     extend c
@@ -33,11 +33,11 @@ The text has up to three sections; the file of a section that is missing is left
 
 Vertices are numbered from 0 in the order of their lines, and are declared above their edges.
 Edges stand in any order; pack sorts them, a graph's by source, label and target, a query's by
-source, target and label.
+source, target and label, where any comes before 1.
 
     vertices   graph 0 to 65535, query 2 to 8; label 0 to 65535
-    edges      graph 0 to 1048575, query 1 to 24; label 1 to 255; none twice; in a query none
-               from a vertex to itself
+    edges      graph 0 to 1048575, query 1 to 24; label 1 to 255, in a query also any; none
+               twice; in a query none from a vertex to itself
     operators  1 to 31
 
 A text that breaks these rules is not packed: pack writes FILE:LINE: and the reason, and leaves

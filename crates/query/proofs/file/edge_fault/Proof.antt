@@ -44,35 +44,22 @@ returns-3 c =
     let e = edgeFrom (a .file .now) (a .at) in
     rw (lt-ltb (e .source) (a .n) (omega arith), lt-ltb (e .target) (a .n) (omega arith), eq-eqb (e .source) (e .target) (omega arith))
 
-add-field-2 : tie.Need-add-field-2
-add-field-2 c = search needs
-
-field-requires-3 : tie.Need-field-requires-3
-field-requires-3 c κs = search needs
+edge-key-requires : tie.Need-edge-key-requires
+edge-key-requires c κs = search needs
 
 returns-4 : tie.Need-returns-4
 unfolding first
 returns-4 c =
     let a = c .before .before .before .before .before .before .before .before .args in
     let e = edgeFrom (a .file .now) (a .at) in
-    rw (lt-ltb (e .source) (a .n) (omega arith), lt-ltb (e .target) (a .n) (omega arith), ne-eqb (e .source) (e .target) (omega arith), eq-eqb (e .label) 0 (omega arith))
-
-edge-key-requires : tie.Need-edge-key-requires
-edge-key-requires c κs = search needs
+    rw (lt-ltb (e .source) (a .n) (omega arith), lt-ltb (e .target) (a .n) (omega arith), ne-eqb (e .source) (e .target) (omega arith), lt-ltb (key e) (a .least) (omega arith))
 
 returns-5 : tie.Need-returns-5
 unfolding first
 returns-5 c =
-    let a = c .before .before .before .before .before .before .before .before .before .before .args in
+    let a = c .before .before .before .before .before .before .before .before .args in
     let e = edgeFrom (a .file .now) (a .at) in
-    rw (lt-ltb (e .source) (a .n) (omega arith), lt-ltb (e .target) (a .n) (omega arith), ne-eqb (e .source) (e .target) (omega arith), ne-eqb (e .label) 0 (omega arith), lt-ltb (key e) (a .least) (omega arith))
-
-returns-6 : tie.Need-returns-6
-unfolding first
-returns-6 c =
-    let a = c .before .before .before .before .before .before .before .before .before .before .args in
-    let e = edgeFrom (a .file .now) (a .at) in
-    rw (lt-ltb (e .source) (a .n) (omega arith), lt-ltb (e .target) (a .n) (omega arith), ne-eqb (e .source) (e .target) (omega arith), ne-eqb (e .label) 0 (omega arith), le-ltb (key e) (a .least) (omega arith))
+    rw (lt-ltb (e .source) (a .n) (omega arith), lt-ltb (e .target) (a .n) (omega arith), ne-eqb (e .source) (e .target) (omega arith), le-ltb (key e) (a .least) (omega arith))
 
 pub edge-fault-spec : {M : Type 1} → statement M
 edge-fault-spec =
@@ -86,9 +73,6 @@ edge-fault-spec =
     returns
     returns-2
     returns-3
-    add-field-2
-    field-requires-3
-    returns-4
     edge-key-requires
-    returns-5
-    returns-6)
+    returns-4
+    returns-5)
