@@ -14,7 +14,7 @@ static const uint8_t graph[] = {
 static const uint8_t query[] = {0x31, 0x80, 0x00, 0x00, 0x00, 0x00, 0x00, 0x02, 0x02, 0x10, 0x09, 0x40, 0x20};
 static const uint8_t plan[] = {0x10, 0x05, 0x00};
 
-static uint32_t store[26], scratch[16], list[6];
+static uint32_t store[26], scratch[17], list[6];
 
 int main(void)
 {
@@ -23,7 +23,7 @@ int main(void)
     if (refusal == 0)
         refusal = trace_check_plan(query, sizeof query, plan, sizeof plan, &operators);
     if (refusal == 0)
-        refusal = trace_run(store, 26, query, sizeof query, plan, sizeof plan, true, scratch, 16, list, 6,
+        refusal = trace_run(store, 26, query, sizeof query, plan, sizeof plan, true, scratch, 17, list, 6,
                             &rows, &cost, &build, &probe);
     if (refusal != 0) {
         printf("refused %" PRIu32 "\n", refusal);
@@ -34,8 +34,8 @@ int main(void)
     for (uint64_t i = 0; i < rows; i++)
         printf("%" PRIu32 " %" PRIu32 " %" PRIu32 "\n", list[3 * i], list[3 * i + 1], list[3 * i + 2]);
 
-    refusal = trace_run(store, 26, query, sizeof query, plan, sizeof plan, true, scratch, 15, list, 6,
+    refusal = trace_run(store, 26, query, sizeof query, plan, sizeof plan, true, scratch, 16, list, 6,
                         &rows, &cost, &build, &probe);
-    printf("with 15 words of scratch: %s, rows %" PRIu64 "\n", refusal == TRACE_SCRATCH_SMALL ? "refused 20" : "accepted", rows);
+    printf("with 16 words of scratch: %s, rows %" PRIu64 "\n", refusal == TRACE_SCRATCH_SMALL ? "refused 20" : "accepted", rows);
     return 0;
 }

@@ -7,7 +7,7 @@ use crate::{sys, Refusal};
 pub const MAX_WORDS: usize = 1 << 30;
 
 /// Whether an extend reuses the vertices that it found for the row just before, where it may. The rows are the same, and the
-/// cost with it on is no higher.
+/// cost with it on is no higher; the extend needs as many words of scratch more as the longest set of vertices it found has.
 #[derive(Clone, Copy, Debug, PartialEq, Eq, Hash)]
 pub enum Cache {
     /// Every row is looked up.
@@ -74,7 +74,7 @@ pub fn check_plan(query: &[u8], plan: &[u8]) -> Result<usize, Refusal> {
     Ok(size(operators))
 }
 
-/// Runs a plan over a store: the rows are the list's first words, as many a row as the query has vertices.
+/// Runs a plan over a store: the rows are the list's first words, as many a row as the query has vertices, no two the same.
 ///
 /// Any words may stand for a store: those that no graph file loads to are refused. Refused, the list is untouched; accepted,
 /// its words past the last row are. The scratch, up to [`MAX_WORDS`], is zero afterwards in both cases.

@@ -1,8 +1,9 @@
 //! Subgraph matching by a proved engine: load a packed graph, check a plan, run it.
 //!
 //! The engine is written in Rattle and proved to meet its contracts: after an accepted run the list holds every match of the
-//! query once, and nothing else. This crate is a thin, safe wrapper of its static library. It is not proved: all that it does
-//! is to hand slices over as pointers and lengths, and to turn the answer into a [`Result`].
+//! query once, and nothing else. A match gives different query vertices different data vertices. This crate is a thin, safe
+//! wrapper of its static library. It is not proved: all that it does is to hand slices over as pointers and lengths, and to turn
+//! the answer into a [`Result`].
 //!
 //! ```
 //! use trace::{Buffers, Cache, Store};

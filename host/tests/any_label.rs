@@ -1,54 +1,40 @@
 //! Query edges of label 0, which fit graph edges of any label: cases worked by hand, and pairs of runs that answer alike.
 mod judge;
 
-use judge::calls::{self, Input, Ran};
+use judge::calls::Ran;
+use judge::cases::{case, run, Worked};
 use judge::graph::Graph;
 use judge::matcher::Matcher;
 use judge::plan::{self, Operator};
 use judge::query::Query;
-use judge::random::{each, Random};
-use judge::worked::{bundle, doubled, graph};
-use judge::{in_words, rules};
+use judge::random::each;
+use judge::rules;
+use judge::worked::{bundle, doubled, graph, two_bundles};
 use Operator::{Extend, Join, Scan};
-
-/// A case worked by hand.
-struct Worked {
-    graph: Graph,
-    query: Query,
-    plan: Vec<Operator>,
-    rows: Vec<u32>,
-    /// With the cache off, and on.
-    cost: [u64; 2],
-    build: u64,
-    probe: u64,
-    need: usize,
-}
 
 fn worked() -> Vec<Worked> {
     let pair = || Query::any(2, &[(0, 1)]);
     let path = || Query::any(3, &[(0, 1), (1, 2)]);
     let triangle = || Query::any(3, &[(0, 1), (0, 2), (1, 2)]);
-    let case = |graph, query, plan: &[Operator], rows: &[u32], cost, need| {
-        let (plan, rows) = (plan.to_vec(), rows.to_vec());
-        Worked { graph, query, plan, rows, cost, build: 0, probe: 0, need }
-    };
+    let both = || Query::new(vec![0; 2], vec![(0, 1, 0), (0, 1, 2)]);
     vec![
         // Seven edges join five pairs.
-        case(doubled(), pair(), &[Scan(0)], &[0, 1, 0, 2, 1, 2, 1, 3, 2, 3], [0, 0], 10),
+        case(doubled(), pair(), &[Scan(0)], &[0, 1, 0, 2, 1, 2, 1, 3, 2, 3], [0, 0], [10, 10]),
         // Forward lists of 3, 3, 1 and 0 entries: 3+3, 3+1, 3+1, 3+0, 1+0.
-        case(doubled(), triangle(), &[Scan(0), Extend(2)], &[0, 1, 2, 1, 2, 3], [18, 18], 16),
+        case(doubled(), triangle(), &[Scan(0), Extend(2)], &[0, 1, 2, 1, 2, 3], [18, 18], [16, 17]),
         // Backward lists of 0, 2, 3 and 2 entries: 0+2, 0+3, 2+3, 2+2, 3+2.
-        case(doubled(), triangle(), &[Scan(2), Extend(0)], &[0, 1, 2, 1, 2, 3], [19, 19], 16),
+        case(doubled(), triangle(), &[Scan(2), Extend(0)], &[0, 1, 2, 1, 2, 3], [19, 19], [16, 17]),
         // A forward and a backward list: 3+2, 3+3, 3+3, 3+2, 1+2.
-        case(doubled(), triangle(), &[Scan(1), Extend(1)], &[0, 1, 2, 1, 2, 3], [25, 25], 16),
-        // Vertex 1 has 2 and 3 in ascending order, whatever their labels. The vertices used are 1, 2, 2, 3, 3.
+        case(doubled(), triangle(), &[Scan(1), Extend(1)], &[0, 1, 2, 1, 2, 3], [25, 25], [16, 17]),
+        // Vertex 1 has 2 and 3 in ascending order, whatever their labels; each is one of its set, though 2 has two edges. The
+        // vertices used are 1, 2, 2, 3, 3.
         case(
             doubled(),
             path(),
             &[Scan(0), Extend(2)],
             &[0, 1, 2, 0, 1, 3, 0, 2, 3, 1, 2, 3],
             [3 + 1 + 1, 3 + 1],
-            10 + 12,
+            [10 + 12, 10 + 12 + 2],
         ),
         // Both sides of the join have each pair once.
         Worked {
@@ -60,12 +46,12 @@ fn worked() -> Vec<Worked> {
                 &[Scan(0), Scan(1), Join],
                 &[0, 1, 2, 0, 1, 3, 0, 2, 3, 1, 2, 3],
                 [0, 0],
-                10 + 10 + 12 + 5 + 8,
+                [10 + 10 + 12 + 5 + 8; 2],
             )
         },
         // An edge of any label and one of label 2 join the same pair: both are tested, whichever is scanned.
-        case(doubled(), Query::new(vec![0; 2], vec![(0, 1, 0), (0, 1, 2)]), &[Scan(0)], &[0, 1, 1, 2, 2, 3], [0, 0], 6),
-        case(doubled(), Query::new(vec![0; 2], vec![(0, 1, 0), (0, 1, 2)]), &[Scan(1)], &[0, 1, 1, 2, 2, 3], [0, 0], 6),
+        case(doubled(), both(), &[Scan(0)], &[0, 1, 1, 2, 2, 3], [0, 0], [6, 6]),
+        case(doubled(), both(), &[Scan(1)], &[0, 1, 1, 2, 2, 3], [0, 0], [6, 6]),
         // The rows (0, 1), (0, 2) and (1, 3) are extended by a whole list and the portion of label 3: 3+1, 1+0, 0+0.
         case(
             doubled(),
@@ -73,10 +59,10 @@ fn worked() -> Vec<Worked> {
             &[Scan(0), Extend(2)],
             &[0, 1, 2],
             [5, 5],
-            6 + 3,
+            [6 + 3, 6 + 3 + 1],
         ),
         // Both directions of a pair: of no pair here.
-        case(doubled(), Query::any(2, &[(0, 1), (1, 0)]), &[Scan(0)], &[], [0, 0], 0),
+        case(doubled(), Query::any(2, &[(0, 1), (1, 0)]), &[Scan(0)], &[], [0, 0], [0, 0]),
         // Vertex labels are tested as ever: query vertex 1 is to have label 5.
         case(
             Graph { labels: vec![0, 5, 0, 5], ..doubled() },
@@ -84,84 +70,45 @@ fn worked() -> Vec<Worked> {
             &[Scan(0)],
             &[0, 1, 1, 3, 2, 3],
             [0, 0],
-            6,
+            [6, 6],
         ),
-        // 255 labels, one row each time, and all of the list in the cost.
-        case(bundle(), pair(), &[Scan(0)], &[0, 1], [0, 0], 2),
-        case(bundle(), Query::any(3, &[(0, 1), (0, 2)]), &[Scan(0), Extend(2)], &[0, 1, 1], [255, 255], 5),
-        case(bundle(), Query::any(3, &[(0, 1), (2, 1)]), &[Scan(0), Extend(2)], &[0, 1, 0], [255, 255], 5),
+        // 255 labels, one row, and all of the list in the cost. Where the far end is taken, no row is left.
+        case(bundle(), pair(), &[Scan(0)], &[0, 1], [0, 0], [2, 2]),
+        case(bundle(), Query::any(3, &[(0, 1), (0, 2)]), &[Scan(0), Extend(2)], &[], [255, 255], [2, 3]),
+        case(bundle(), Query::any(3, &[(0, 1), (2, 1)]), &[Scan(0), Extend(2)], &[], [255, 255], [2, 3]),
+        // Two far ends: each row takes the other one.
+        case(
+            two_bundles(),
+            Query::any(3, &[(0, 1), (0, 2)]),
+            &[Scan(0), Extend(2)],
+            &[0, 1, 2, 0, 2, 1],
+            [2 * 510, 510],
+            [4 + 6, 4 + 6 + 2],
+        ),
         // The most edges that a query has: the whole list and the portions of labels 1 to 22.
         case(
-            bundle(),
+            two_bundles(),
             Query::new(vec![0; 3], (0..23).map(|label| (0, 2, label)).chain([(0, 1, 0)]).collect()),
             &[Scan(0), Extend(2)],
-            &[0, 1, 1],
-            [255 + 22, 255 + 22],
-            5,
+            &[0, 1, 2, 0, 2, 1],
+            [2 * (510 + 44), 510 + 44],
+            [4 + 6, 4 + 6 + 2],
         ),
         // A vertex that two labels join to itself.
-        case(Graph::new(vec![0], vec![(0, 1, 0), (0, 9, 0)]), triangle(), &[Scan(0), Extend(2)], &[0, 0, 0], [4, 4], 5),
-        case(graph(2, &[]), triangle(), &[Scan(0), Extend(2)], &[], [0, 0], 0),
-        case(graph(0, &[]), triangle(), &[Scan(0), Extend(2)], &[], [0, 0], 0),
+        case(Graph::new(vec![0], vec![(0, 1, 0), (0, 9, 0)]), triangle(), &[Scan(0), Extend(2)], &[], [0, 0], [0, 0]),
+        case(graph(2, &[]), triangle(), &[Scan(0), Extend(2)], &[], [0, 0], [0, 0]),
+        case(graph(0, &[]), triangle(), &[Scan(0), Extend(2)], &[], [0, 0], [0, 0]),
     ]
-}
-
-impl Worked {
-    fn answer(&self, cache: bool) -> rules::Answer {
-        rules::Answer {
-            rows: self.rows.clone(),
-            count: self.rows.len() / self.query.vertices(),
-            cost: self.cost[usize::from(cache)],
-            build: self.build,
-            probe: self.probe,
-            need: self.need,
-        }
-    }
 }
 
 #[test]
 fn worked_cases_by_the_judge() {
-    for case in worked() {
-        let Worked { graph, query, plan, .. } = &case;
-        assert_eq!(Query::read(&query.file()).as_ref(), Ok(query));
-        assert_eq!(plan::read(query, &plan::file(plan)).as_ref(), Ok(plan));
-        for cache in [false, true] {
-            let answer = rules::run(&Matcher::new(graph), query, plan, cache, 100).unwrap();
-            assert_eq!(answer, case.answer(cache), "{graph:?} {query:?} {plan:?}");
-            assert_eq!(answer, in_words::run(graph, query, plan, cache), "{graph:?} {query:?} {plan:?}");
-        }
-    }
+    worked().iter().for_each(Worked::hold_judge);
 }
 
 #[test]
 fn worked_cases_by_the_library() {
-    each(0..1, |r| {
-        for case in worked() {
-            for cache in [false, true] {
-                let (answer, list) = (case.answer(cache), case.rows.len());
-                let run = |scratch, list| run(r, &case.graph, &case.query, &case.plan, cache, scratch, list);
-                let accepted = accepted(answer);
-                assert_eq!(run(case.need, list), accepted, "{:?} {:?} {:?}", case.graph, case.query, case.plan);
-                assert_eq!(run(case.need + 40, list + 40), accepted);
-                if case.need > 0 {
-                    assert_eq!(run(case.need - 1, list).refusal, 20);
-                }
-                if list > 0 {
-                    assert_eq!(run(case.need, list - 1).refusal, 21);
-                }
-            }
-        }
-    });
-}
-
-fn accepted(answer: rules::Answer) -> Ran {
-    let rules::Answer { rows, count, cost, build, probe, .. } = answer;
-    Ran { refusal: 0, rows: count as u64, cost, build, probe, list: rows }
-}
-
-fn run(r: &Random, g: &Graph, q: &Query, p: &[Operator], cache: bool, scratch: usize, list: usize) -> Ran {
-    let input = Input { store: &g.store(), query: &q.file(), plan: &plan::file(p), cache };
-    calls::run(r, &input, scratch, list)
+    each(0..1, |r| worked().iter().for_each(|case| case.hold_library(r)));
 }
 
 /// Pairs of runs by one plan, which answer alike but for the cost: that of the second is not below that of the first. Answers how
@@ -169,7 +116,7 @@ fn run(r: &Random, g: &Graph, q: &Query, p: &[Operator], cache: bool, scratch: u
 fn compare(seeds: std::ops::Range<u64>, twins: impl Fn(Graph, Query) -> [(Graph, Query); 2]) -> (u64, usize) {
     let (mut rows, mut dearer) = (0, 0);
     each(seeds, |r| {
-        let [(graph, query), (other_graph, other_query)] = twins(Graph::random(r, 9), Query::random(r, 6));
+        let [(graph, query), (other_graph, other_query)] = twins(Graph::random(r, 14), Query::random(r, 6));
         let plan = plan::random(r, &query);
         // Of the edges between a pair it does not matter which is scanned.
         let same_pair =
@@ -211,7 +158,7 @@ fn of_one_label(graph: &Graph) -> Graph {
 #[test]
 fn the_only_label() {
     let twins = |graph: Graph, query: Query| [1, 0].map(|label| (of_one_label(&graph), relabelled(&query, label)));
-    let (rows, dearer) = compare(0..4_000, twins);
+    let (rows, dearer) = compare(0..6_000, twins);
     assert!(rows > 50_000 && dearer == 0, "{rows} rows, {dearer} with another cost");
 }
 
@@ -219,7 +166,7 @@ fn the_only_label() {
 #[test]
 fn labels_forgotten() {
     let twins = |graph: Graph, query: Query| [of_one_label(&graph), graph].map(|graph| (graph, relabelled(&query, 0)));
-    let (rows, dearer) = compare(4_000..8_000, twins);
+    let (rows, dearer) = compare(6_000..12_000, twins);
     assert!(rows > 50_000 && dearer > 500, "{rows} rows, {dearer} with another cost");
 }
 
@@ -232,6 +179,6 @@ fn any_label_beside_a_label() {
         let more = if more.edges.len() <= 24 { more } else { query.clone() };
         [(graph.clone(), query), (graph, more)]
     };
-    let (rows, dearer) = compare(8_000..12_000, twins);
+    let (rows, dearer) = compare(12_000..24_000, twins);
     assert!(rows > 20_000 && dearer > 500, "{rows} rows, {dearer} with another cost");
 }

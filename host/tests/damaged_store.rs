@@ -137,7 +137,7 @@ fn counts_at_their_limits() {
         for (n, m, accepted) in
             [(65_535, 2, true), (65_536, 2, false), (3_000, 1_048_575, true), (3_000, 1_048_576, false)]
         {
-            let edges: Vec<[u32; 3]> = (0..m).map(|i| [i / 1_000, 1 + i % 100, i % 1_000 / 100]).collect();
+            let edges: Vec<[u32; 3]> = (0..m).map(|i| [i / 1_000, 1 + i % 100, 1 + i % 1_000 / 100]).collect();
             let words = words_of(&vec![0; n], &edges);
             let (query, plan) = (Query::plain(2, &[(0, 1)]).file(), plan::file(&[Operator::Scan(0)]));
             let input = Input { store: &words, query: &query, plan: &plan, cache: false };

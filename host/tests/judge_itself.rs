@@ -12,8 +12,8 @@ use std::collections::BTreeMap;
 #[test]
 fn the_rules_in_words() {
     let (mut rows, mut joins, mut any) = (0, 0, 0);
-    each(0..6_000, |r| {
-        let (graph, query) = (Graph::random(r, 5), Query::random(r, 4));
+    each(0..20_000, |r| {
+        let (graph, query) = (Graph::random(r, 6), Query::random(r, 4));
         let plan = plan::random(r, &query);
         let cache = r.chance(1, 2);
         let Some(answer) = rules::run(&Matcher::new(&graph), &query, &plan, cache, 300) else { return };

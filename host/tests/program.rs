@@ -7,7 +7,7 @@ use judge::plan::{self, Operator};
 use judge::program::{answer, printed, run, run_places, run_reading, unbounded, Files, Place, FILES, MAX_BYTES};
 use judge::query::{Query, QueryEdge};
 use judge::random::each;
-use judge::worked::{bundle, diamond, doubled, g, graph, k, triangle};
+use judge::worked::{bundle, diamond, doubled, g, graph, k, triangle, two_bundles};
 use std::collections::BTreeSet;
 use std::path::Path;
 use Operator::{Extend, Join, Scan, Unknown};
@@ -55,15 +55,16 @@ fn the_worked_cases() {
     let bushy = [Scan(2), Extend(0), Scan(2), Extend(3), Join];
     let chain = [Scan(0), Extend(2), Extend(3), Extend(4), Extend(5), Extend(6), Extend(7)];
     let two = [Scan(0), Extend(2)];
+    let line = graph(8, &(0..7).map(|v| (v, v + 1)).collect::<Vec<_>>());
     let cases: [(Files, &str); 9] = [
         (files(&g(), &triangle(), &[Scan(2), Extend(0)]), WORKED),
         (files(&g(), &triangle(), &[Scan(1), Extend(1)]), "matches 2 cost 18 build 0 probe 0\n0 1 2\n1 2 3\n"),
         (files(&g(), &diamond(), &deep), "matches 1 cost 17 build 0 probe 0\n0 1 2 3\n"),
         (files(&g(), &diamond(), &bushy), "matches 1 cost 26 build 2 probe 2\n0 1 2 3\n"),
         (files(&k(), &diamond(), &deep), "matches 2 cost 28 build 0 probe 0\n0 2 3 4\n1 2 3 4\n"),
-        (files(&graph(1, &[(0, 0)]), &triangle(), &two), "matches 1 cost 2 build 0 probe 0\n0 0 0\n"),
+        (files(&graph(1, &[(0, 0)]), &triangle(), &two), "matches 0 cost 0 build 0 probe 0\n"),
         (files(&graph(0, &[]), &triangle(), &two), "matches 0 cost 0 build 0 probe 0\n"),
-        (files(&graph(1, &[(0, 0)]), &path(8), &chain), "matches 1 cost 6 build 0 probe 0\n0 0 0 0 0 0 0 0\n"),
+        (files(&line, &path(8), &chain), "matches 1 cost 21 build 0 probe 0\n0 1 2 3 4 5 6 7\n"),
         (
             files(&graph(1_363, &[(1_362, 1_000)]), &path(2), &[Scan(0)]),
             "matches 1 cost 0 build 0 probe 0\n1362 1000\n",
@@ -81,11 +82,12 @@ fn the_worked_cases_of_any_label() {
     let pair = Query::any(2, &[(0, 1)]);
     let path = Query::any(3, &[(0, 1), (1, 2)]);
     let triangle = Query::any(3, &[(0, 1), (0, 2), (1, 2)]);
+    let fork = Query::any(3, &[(0, 1), (0, 2)]);
     let both = Query::new(vec![0; 2], vec![(0, 1, 0), (0, 1, 2)]);
     let extended = Query::new(vec![0; 3], vec![(0, 1, 1), (1, 2, 0), (1, 2, 3)]);
     let two = [Scan(0), Extend(2)];
     let join = [Scan(0), Scan(1), Join];
-    let cases: [(Files, &str); 9] = [
+    let cases: [(Files, &str); 10] = [
         (files(&doubled(), &pair, &[Scan(0)]), "matches 5 cost 0 build 0 probe 0\n0 1\n0 2\n1 2\n1 3\n2 3\n"),
         (files(&doubled(), &triangle, &two), "matches 2 cost 18 build 0 probe 0\n0 1 2\n1 2 3\n"),
         (files(&doubled(), &path, &two), "matches 4 cost 4 build 0 probe 0\n0 1 2\n0 1 3\n0 2 3\n1 2 3\n"),
@@ -93,7 +95,8 @@ fn the_worked_cases_of_any_label() {
         (files(&doubled(), &both, &[Scan(0)]), "matches 3 cost 0 build 0 probe 0\n0 1\n1 2\n2 3\n"),
         (files(&doubled(), &both, &[Scan(1)]), "matches 3 cost 0 build 0 probe 0\n0 1\n1 2\n2 3\n"),
         (files(&doubled(), &extended, &two), "matches 1 cost 5 build 0 probe 0\n0 1 2\n"),
-        (files(&bundle(), &Query::any(3, &[(0, 1), (0, 2)]), &two), "matches 1 cost 255 build 0 probe 0\n0 1 1\n"),
+        (files(&bundle(), &fork, &two), "matches 0 cost 255 build 0 probe 0\n"),
+        (files(&two_bundles(), &fork, &two), "matches 2 cost 510 build 0 probe 0\n0 1 2\n0 2 1\n"),
         (files(&graph(2, &[]), &pair, &[Scan(0)]), "matches 0 cost 0 build 0 probe 0\n"),
     ];
     for (files, text) in cases {
@@ -156,10 +159,10 @@ fn links() {
     }
 }
 
-/// A graph of so many vertices and edges: from each vertex at most five edges, of labels 1 to 5.
+/// A graph of so many vertices and edges: from each vertex at most five edges, of labels 1 to 5, none to itself.
 fn sized(n: u16, m: u16) -> Graph {
     assert!(m <= 5 * n);
-    let edges = (0..m).map(|i| (i / 5, 1 + (i % 5) as u8, (i * 7) % n)).collect();
+    let edges = (0..m).map(|i| (i / 5, 1 + (i % 5) as u8, (i / 5 + 7 + i % 5) % n)).collect();
     Graph { labels: vec![0; n.into()], edges }
 }
 
@@ -301,26 +304,27 @@ fn of_check_plan() -> Vec<Refused> {
 
 /// Edges of label 1, scanned: so many rows.
 fn scan(rows: u16) -> Files {
-    let pairs: Vec<(u16, u16)> = (0..rows).map(|i| (i / 33, i % 33)).collect();
-    files(&graph(33, &pairs), &Query::plain(2, &[(0, 1)]), &[Scan(0)])
+    let pairs: Vec<(u16, u16)> = (0..rows).map(|i| (i / 33, 33 + i % 33)).collect();
+    files(&graph(66, &pairs), &Query::plain(2, &[(0, 1)]), &[Scan(0)])
 }
 
 fn two_labels() -> Query {
     Query::new(vec![0; 3], vec![(0, 1, 1), (1, 2, 2)])
 }
 
-/// So many edges of label 1, of which the first is extended to so many rows by edges of label 2.
-fn extend(operands: u16, rows: u16) -> Files {
-    let edges = (1..=operands).map(|t| (0, 1, t)).chain((0..rows).map(|t| (1, 2, t))).collect();
+/// So many edges of label 1, of which the first is extended to so many rows by edges of label 2. Its set of new vertices has besides
+/// 1 or 2 that the row has already, or none.
+fn extend(operands: u16, rows: u16, struck: u16) -> Files {
+    let edges = (1..=operands).map(|t| (0, 1, t)).chain((2 - struck..2 + rows).map(|t| (1, 2, t))).collect();
     files(&Graph::new(vec![0; 700], edges), &two_labels(), &[Scan(0), Extend(2)])
 }
 
 /// So many edges of label 1, joined with so many of label 2: four rows, since two of each meet in vertex 40.
 fn join(build: u16, probe: u16) -> Files {
-    let mut edges: Vec<Edge> = vec![(0, 1, 40), (1, 1, 40), (40, 2, 0), (40, 2, 1)];
-    edges.extend((0..build - 2).map(|i| (i / 16, 1, i % 16)));
-    edges.extend((0..probe - 2).map(|i| (16 + i / 22, 2, i % 22)));
-    files(&Graph::new(vec![0; 41], edges), &two_labels(), &[Scan(0), Scan(1), Join])
+    let mut edges: Vec<Edge> = vec![(0, 1, 40), (1, 1, 40), (40, 2, 41), (40, 2, 42)];
+    edges.extend((0..build - 2).map(|i| (i / 16, 1, 64 + i % 16)));
+    edges.extend((0..probe - 2).map(|i| (16 + i / 22, 2, 41 + i % 22)));
+    files(&Graph::new(vec![0; 80], edges), &two_labels(), &[Scan(0), Scan(1), Join])
 }
 
 /// Needs of 2,048 words, which run, and of few words more. The rows of the first fill the list too.
@@ -329,8 +333,12 @@ fn the_last_word_of_the_scratch() {
     for (files, rows, need) in [
         (scan(1_024), 1_024, 2_048),
         (scan(1_025), 1_025, 2_050),
-        (extend(1, 682), 682, 2_048),
-        (extend(3, 681), 681, 2_049),
+        (extend(2, 511, 0), 511, 2_048),
+        (extend(4, 509, 2), 509, 2_046),
+        (extend(4, 510, 0), 510, 2_048),
+        (extend(4, 510, 1), 510, 2_049),
+        (extend(1, 511, 2), 511, 2_048),
+        (extend(1, 511, 0), 511, 2_046),
         (join(252, 512), 4, 2_048),
         (join(253, 511), 4, 2_049),
     ] {
@@ -343,7 +351,7 @@ fn the_last_word_of_the_scratch() {
 }
 
 fn of_run() -> Vec<Refused> {
-    [scan(1_025), extend(1, 683), extend(3, 681), join(253, 511)].into_iter().map(|files| (20, files)).collect()
+    [scan(1_025), extend(1, 512, 0), extend(4, 510, 1), join(253, 511)].into_iter().map(|files| (20, files)).collect()
 }
 
 /// Each refusal that the program can give. Not 19, since Run gets the store that Load wrote; nor 21, since the need counts the
@@ -362,8 +370,8 @@ fn every_refusal() {
 #[test]
 fn random_files() {
     let (mut accepted, mut refusals) = (0, BTreeSet::new());
-    each(0..1_000, |r| {
-        let graph = Graph::random(r, 9);
+    each(0..1_500, |r| {
+        let graph = Graph::random(r, 14);
         let query = Query::random(r, 5);
         let mut operators = plan::random(r, &query);
         if r.chance(1, 6) {

@@ -67,7 +67,7 @@ impl Case {
 fn small_graphs() {
     let (mut rows, mut joins, mut skipped) = (0, 0, 0);
     each(0..20_000, |r| {
-        let graph = Graph::random(r, 9);
+        let graph = Graph::random(r, 12);
         match Case::random(r, graph, 8, 3_000) {
             Some(case) => {
                 case.compare_lengths(r);
@@ -129,7 +129,7 @@ fn large_graphs() {
 fn every_length() {
     let mut seen = [0; 22];
     each(0..400, |r| {
-        let graph = Graph::random(r, 6);
+        let graph = Graph::random(r, 9);
         let Some(case) = Case::random(r, graph, 5, 40) else { return };
         for scratch in 0..case.want.need + 4 {
             let more = r.below(3);

@@ -45,7 +45,7 @@ fn the_worked_cases() {
     let deep = [Scan(2), Extend(0), Extend(3)];
     assert_eq!(run(&k(), &diamond(), &deep, Cache::Off), (rows.clone(), 31, 0, 0));
     assert_eq!(run(&k(), &diamond(), &deep, on), (rows, 28, 0, 0));
-    assert_eq!(run(&graph(1, &[(0, 0)]), &triangle(), &[Scan(0), Extend(2)], on), (vec![vec![0, 0, 0]], 2, 0, 0));
+    assert_eq!(run(&graph(1, &[(0, 0)]), &triangle(), &[Scan(0), Extend(2)], on), (vec![], 0, 0, 0));
     assert_eq!(run(&graph(0, &[]), &triangle(), &[Scan(0), Extend(2)], on), (vec![], 0, 0, 0));
 }
 
@@ -63,18 +63,22 @@ fn any_label() {
 fn the_worked_lengths() {
     let (store, query) = (Store::load(&g().file()).unwrap(), triangle().file());
     let plan = plan::file(&[Scan(0), Extend(2)]);
-    let run = |scratch: usize, list: usize| {
-        store.run(&query, &plan, Cache::On, &mut vec![1; scratch], &mut vec![1; list]).map(|m| m.len())
+    let run = |cache, scratch: usize, list: usize| {
+        store.run(&query, &plan, cache, &mut vec![1; scratch], &mut vec![1; list]).map(|m| m.len())
     };
-    assert_eq!(run(16, 6), Ok(2));
-    assert_eq!(run(15, 6), Err(Refusal::ScratchSmall));
-    assert_eq!(run(16, 5), Err(Refusal::ListSmall));
+    for (cache, need) in [(Cache::Off, 16), (Cache::On, 17)] {
+        assert_eq!(run(cache, need, 6), Ok(2));
+        assert_eq!(run(cache, need - 1, 6), Err(Refusal::ScratchSmall));
+        assert_eq!(run(cache, need, 5), Err(Refusal::ListSmall));
+    }
     let bushy = plan::file(&[Scan(2), Extend(0), Scan(2), Extend(3), Join]);
-    let run = |scratch: usize| {
-        store.run(&diamond().file(), &bushy, Cache::On, &mut vec![1; scratch], &mut [1; 4]).map(|m| m.len())
+    let run = |cache, scratch: usize| {
+        store.run(&diamond().file(), &bushy, cache, &mut vec![1; scratch], &mut [1; 4]).map(|m| m.len())
     };
-    assert_eq!(run(22), Ok(1));
-    assert_eq!(run(21), Err(Refusal::ScratchSmall));
+    for (cache, need) in [(Cache::Off, 22), (Cache::On, 23)] {
+        assert_eq!(run(cache, need), Ok(1));
+        assert_eq!(run(cache, need - 1), Err(Refusal::ScratchSmall));
+    }
     assert_eq!(trace::load_into(&g().file(), &mut [0; 26]), Ok(trace::Loaded { vertices: 4, edges: 5 }));
     assert_eq!(trace::load_into(&g().file(), &mut [0; 25]), Err(Refusal::StoreSmall));
     assert_eq!(trace::check_plan(&query, &plan), Ok(2));
@@ -119,9 +123,9 @@ fn buffers_grow() {
     let mut buffers = Buffers::new();
     for _ in 0..2 {
         let matches = store.run_growing(&query, &plan::file(&[Scan(0)]), Cache::Off, &mut buffers).unwrap();
-        assert_eq!((matches.len(), matches.width(), matches.is_empty()), (40_000, 2, false));
-        assert_eq!(matches.words().len(), 80_000);
-        assert_eq!(matches.rows().next_back(), Some(&[199, 199][..]));
+        assert_eq!((matches.len(), matches.width(), matches.is_empty()), (39_800, 2, false));
+        assert_eq!(matches.words().len(), 79_600);
+        assert_eq!(matches.rows().next_back(), Some(&[199, 198][..]));
     }
 }
 

@@ -71,11 +71,11 @@ uint32_t trace_check_plan(const uint8_t *query, size_t query_len,
 /* Runs a plan over a store, and gives the number of rows, the cost, and the sums of build rows and probe rows over all joins.
  * Refusals 6 to 21.
  *
- * A row is n words, the data vertices of query vertices 0 to n - 1; the rows are the matches of the query, each once, from the
- * list's first word on. Refused, the list is untouched; accepted, its words past the last row are. The scratch is zero
- * afterwards, whatever the answer. Scratch or list longer than 1,073,741,824 words counts as that long, and the rest is
+ * A row is n words, the data vertices of query vertices 0 to n - 1, no two the same; the rows are the matches of the query, each
+ * once, from the list's first word on. Refused, the list is untouched; accepted, its words past the last row are. The scratch is
+ * zero afterwards, whatever the answer. Scratch or list longer than 1,073,741,824 words counts as that long, and the rest is
  * untouched. With the cache on, an extend reuses the vertices found for the row just before where it may: the rows are the
- * same, and the cost is no higher. */
+ * same, the cost is no higher, and it needs as many words of scratch more as the longest set of vertices it found has. */
 uint32_t trace_run(const uint32_t *store, size_t store_len,
                    const uint8_t *query, size_t query_len,
                    const uint8_t *plan, size_t plan_len,

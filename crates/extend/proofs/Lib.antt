@@ -1,8 +1,8 @@
 -- Laws of extend.
 pub mod Bounds
-pub mod Copying
 pub mod Used
 pub mod Turns
+pub mod Struck
 pub mod Rowwise
 pub mod Loop
 pub mod Meaning

@@ -22,6 +22,10 @@ pub record Graph : Type 0 where
 abbrev pub maxGraphVertices : ℕ
 maxGraphVertices = 65535
 
+-- The number of no vertex: vertices are 0 to N−1.
+abbrev pub noVertex : ℕ
+noVertex = maxGraphVertices
+
 abbrev pub maxGraphEdges : ℕ
 maxGraphEdges = 1048575
 

@@ -16,6 +16,9 @@ pub struct Graph {
 impl Graph {
     pub const MAX_VERTICES: usize = 65535;
 
+    // The number of no vertex.
+    pub const NO_VERTEX: u32 = 65535;
+
     pub const MAX_EDGES: usize = 1048575;
 
     pub const MAX_VERTEX_LABEL: u32 = 65535;

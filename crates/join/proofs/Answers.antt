@@ -26,7 +26,7 @@ use Rattle.rows.proofs.Widths.{width-past, width-zero, width-suc, row-is}
 use Rattle.rows.proofs.Laid.{rows-wide, length-flatten}
 use Rattle.join.specs.inner.Place.{buildRows}
 use Rattle.join.specs.inner.Joined.{probeWords, Filled}
-use Rattle.join.specs.inner.Operands.{Operands, Members, IsLayout, columnsFor}
+use Rattle.join.specs.inner.Operands.{Operands, Members, IsLayout, columnsFor, Permitted}
 use Rattle.join.specs.declared.Layout.{Layout}
 use Rattle.join.specs.declared.Reached.{Reached}
 use Rattle.join.proofs.Meaning.{both-width, words-are}
@@ -98,7 +98,9 @@ module _ (b p base builds probes top : ℕ) (before after : List ℕ) (t : Layou
     (o : Operands b p base builds probes top (length before)) (is : IsLayout b p base builds (heads builds) (length before) t)
     (room : builds + heads builds ≤ length before - top) (long : length after ≡ length before)
     (f : Filled (flatMap (probeWords t (columnsFor b p) (buildRows t before)) (rowsOf (t .«probe_width») probes (drop (t .probe) before))) top (t .links) before after r) where
-  module _ (q : Query) (few : q .vertices ≤ maxVertices) (inB : Members (q .vertices) b) (inP : Members (q .vertices) p) where
+  module _ (q : Query) (few : q .vertices ≤ maxVertices) (inB : Members (q .vertices) b) (inP : Members (q .vertices) p)
+      (okB : Permitted q (inMask b) (rowsOf (width (q .vertices) (inMask b)) builds (drop base before)))
+      (okP : Permitted q (inMask p) (rowsOf (width (q .vertices) (inMask p)) probes (drop (base + builds * width (q .vertices) (inMask b)) before))) where
     abbrev n : ℕ
     n = q .vertices
 
@@ -145,6 +147,7 @@ module _ (b p base builds probes top : ℕ) (before after : List ℕ) (t : Layou
         ∙ words-are q b p few inB inP t buildSide probeSide (is .widths)
         (rows-are n B builds (drop base before) (rw length-drop (omega (arith, ends, o .below))))
         (rows-are n P probes (drop (base + builds * width n B) before) (rw length-drop (omega (arith, ends, o .below))))
+        okB okP
 
     written : Filled (flatten rows) top (t .links) before after r
     unfolding words

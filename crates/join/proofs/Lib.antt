@@ -10,5 +10,6 @@ pub mod Emitted
 pub mod Probed
 pub mod Sides
 pub mod Started
+pub mod Partners
 pub mod Meaning
 pub mod Answers

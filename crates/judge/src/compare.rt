@@ -77,7 +77,8 @@ fn judge_list(
     }
 }
 
-// All runs of the last of so many plans of a query; answers whether they were judged, and not too large for the scratch.
+// All runs of the last of so many plans of a query; answers whether they were judged, and not too large for the scratch. The first
+// run is with the cache off, which may fit where one with it on does not.
 pub fn judge_plan(
     g: &Graph,
     store: &Store,
@@ -99,7 +100,9 @@ pub fn judge_plan(
     tally::count(tally, tally::JOINED, ((0 < a.build) & (0 < a.probe)) as u64);
     tally::count(tally, tally::ROWS, a.rows as u64);
     w.cache = true;
-    judge_again(store, files, w, a, &first, 0, tally::CACHE, tally);
+    if judge_again(store, files, w, a, &first, 20, tally::CACHE, tally) == 20 {
+        return false;
+    }
     w.cache = plans == 1;
     w.list = runs::row_words(a.rows, with.width);
     judge_list(store, files, w, a, &first, tally);

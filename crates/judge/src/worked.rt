@@ -34,10 +34,12 @@ fn judge_over(q: &Query, places: usize, percent: usize, seed: &mut u64, tally: &
     tally::judge(tally, tally::WORKED, judged);
 }
 
-fn judge_accepted(q: &Query, edges: usize, seed: &mut u64, tally: &mut Tally) {
+// Over a graph of as many places as the query has vertices, and over one of a place more.
+fn judge_accepted(q: &Query, edges: usize, percent: usize, seed: &mut u64, tally: &mut Tally) {
+    let places = q[queries::VERTICES];
     tally::judge(tally, tally::WORKED, q[queries::EDGES] == edges);
-    judge_over(q, 2, 100, seed, tally);
-    judge_over(q, 3, 50, seed, tally);
+    judge_over(q, places, percent, seed, tally);
+    judge_over(q, add(places, 1), percent, seed, tally);
 }
 
 // A file with the counts of n vertices and m edges, of the size that they take.
@@ -54,10 +56,10 @@ pub fn judge_cases(seed: &mut u64, tally: &mut Tally) {
     let mut q = [0usize; queries::WORDS];
     // The path through 8 vertices.
     set_query(&mut q, 8, 7, 5, 36);
-    judge_accepted(&q, 7, seed, tally);
+    judge_accepted(&q, 7, 30, seed, tally);
     // All edges of three labels and of any from vertices 0 and 1 of four.
     set_query(&mut q, 4, 24, 0, 1);
-    judge_accepted(&q, 24, seed, tally);
+    judge_accepted(&q, 24, 100, seed, tally);
     judge_refused(9, 9, tally);
     judge_refused(1, 1, tally);
     judge_refused(8, 25, tally);

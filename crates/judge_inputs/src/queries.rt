@@ -139,11 +139,23 @@ fn try_edge(q: &mut Query, g: &Graph, row: &[usize; 8], edge: usize, any: bool) 
     false
 }
 
-// Gives the next vertex a place, and an edge to one before it if the edge will do.
+// A vertex has the place.
+fn is_taken(row: &[usize; 8], k: usize) -> bool {
+    let half = (row[0] == k) | (row[1] == k) | (row[2] == k) | (row[3] == k);
+    half | (row[4] == k) | (row[5] == k) | (row[6] == k) | (row[7] == k)
+}
+
+// Gives the next vertex a place that none has yet, and an edge to one before it if the edge will do; or, if the edge may be any, any
+// place.
 fn join_vertex(q: &mut Query, g: &Graph, row: &mut [usize; 8], any: bool, seed: &mut u64) {
     let v = q[JOINED];
-    row[v % 8] = below(seed, g[graphs::PLACES]);
+    let k = below(seed, g[graphs::PLACES]);
     let edge = random_edge(below(seed, v), v, seed);
+    row[v % 8] = graphs::NO_PLACE;
+    if is_taken(row, k) & !any {
+        return;
+    }
+    row[v % 8] = k;
     if try_edge(q, g, row, edge, any) {
         q[JOINED] = add(v, 1);
     }
@@ -152,7 +164,7 @@ fn join_vertex(q: &mut Query, g: &Graph, row: &mut [usize; 8], any: bool, seed: 
 // Joins all vertices, by an edge that may be any in every sixteenth step at least; then adds edges, so many in a hundred steps.
 fn join_vertices(q: &mut Query, g: &Graph, any: bool, more: usize, seed: &mut u64) {
     let n = q[VERTICES];
-    let mut row = [0usize; 8];
+    let mut row = [graphs::NO_PLACE; 8];
     row[0] = below(seed, g[graphs::PLACES]);
     q[JOINED] = 1;
     for i in 0..128usize {
@@ -173,11 +185,20 @@ fn random_labels(seed: &mut u64) -> usize {
     words[below(seed, 6) % 6]
 }
 
-// A random connected query of 2 to 8 vertices; three of four are made of edges of the graph.
+// 2 to 8 vertices; no more than so many places, unless edges may be any.
+fn random_vertices(places: usize, any: bool, seed: &mut u64) -> usize {
+    let n = add(2, below(seed, 7));
+    if any | (places < 2) | (n <= places) {
+        return n;
+    }
+    places
+}
+
+// A random connected query; three of four are made of edges of the graph.
 pub fn random(q: &mut Query, g: &Graph, seed: &mut u64) {
-    start(q, add(2, below(seed, 7)));
-    q[LABELS] = random_labels(seed);
     let any = chance(seed, 25);
+    start(q, random_vertices(g[graphs::PLACES], any, seed));
+    q[LABELS] = random_labels(seed);
     let more = below(seed, 20);
     join_vertices(q, g, any, more, seed);
 }

@@ -3,14 +3,14 @@ use mathlib.Core.Path.{_≡_, refl, sym, _∙_, ap, ap₂, fun-ext}
 use mathlib.Core.Logic.{_⊎_, inl, inr}
 use mathlib.Core.Bool.{Bool, true, false, cond, _&&_, and-true, and-false}
 use mathlib.Core.List.{List, [], _∷_, _++_, map, flatMap, List·Memᴰ, List·Memᴰ·head, List·Memᴰ·tail}
-use Prim.Native.Nat.{ℕ, zero, suc, _+_, _*_, _≤_, _<_}
-use native.Mathlib.Nat.{zero-add, add-zero, add-assoc, add-comm, eq-or-lt-of-le, le-of-suc-le-suc}
+use Prim.Native.Nat.{ℕ, zero, suc, _+_, _*_, _≤_, _<_, max}
+use native.Mathlib.Nat.{zero-add, add-zero, add-assoc, add-comm, eq-or-lt-of-le, le-of-suc-le-suc, le-antisymm, le-trans, max-le, max-comm, le-max-left, le-max-right}
 use native.Mathlib.Numerals.{add-one}
 use native.Mathlib.Omega.{arith}
 use lib.Dec.{eqb, ltb}
 use lib.ListN.{length, getD, take}
 use borrow.Author.Tests.{eqb-true, ltb-true, lt-ltb, le-ltb}
-use Rattle.lists.specs.Lists.{bit, range, all, keep, count, total}
+use Rattle.lists.specs.Lists.{bit, range, all, keep, count, total, largest}
 use Rattle.lists.proofs.All.{all-append}
 use Rattle.lists.proofs.Tests.{iff, and-l, and-r, and-turn, eqb-sym}
 
@@ -244,3 +244,15 @@ pub total-most : (f : ℕ → ℕ) (most n : ℕ) → ((k : ℕ) → k < n → f
 unfolding range total
 total-most f most zero h = omega arith
 total-most f most (suc n) h = rw (total-suc f n) (omega (arith, total-most f most n (λ k l. h k (omega arith)), h n (omega arith)))
+
+max-assoc : (a b c : ℕ) → max (max a b) c ≡ max a (max b c)
+max-assoc a b c =
+    le-antisymm
+    (max-le (max-le (le-max-left a (max b c)) (le-trans (le-max-left b c) (le-max-right a (max b c)))) (le-trans (le-max-right b c) (le-max-right a (max b c))))
+    (max-le (le-trans (le-max-left a b) (le-max-left (max a b) c)) (max-le (le-trans (le-max-right a b) (le-max-left (max a b) c)) (le-max-right (max a b) c)))
+
+-- The largest of a list with one element more.
+pub largest-snoc : {A : Type 0} (f : A → ℕ) (xs : List A) (x : A) → largest f (xs ++ (x ∷ [])) ≡ max (largest f xs) (f x)
+unfolding largest
+largest-snoc f [] x = max-comm (f x) 0
+largest-snoc f (y ∷ xs) x = ap (max (f y)) (largest-snoc f xs x) ∙ sym (max-assoc (f y) (largest f xs) (f x))

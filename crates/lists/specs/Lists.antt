@@ -1,7 +1,7 @@
 -- Lists of numbers, rows and edges: testing, choosing, counting, sorting. Assumes nothing.
 use mathlib.Core.Bool.{Bool, true, false, cond, _&&_, _||_}
 use mathlib.Core.List.{List, [], _∷_, _++_}
-use Prim.Native.Nat.{ℕ, zero, suc, _+_}
+use Prim.Native.Nat.{ℕ, zero, suc, _+_, max}
 use lib.Dec.{eqb, leb, ltb}
 
 infixr 25 _⇒_
@@ -44,6 +44,11 @@ count p (x ∷ xs) = bit (p x) + count p xs
 unfoldable pub total : {A : Type 0} → (A → ℕ) → List A → ℕ
 total f [] = 0
 total f (x ∷ xs) = f x + total f xs
+
+-- The largest of a number taken of each element; 0 where there is none.
+unfoldable pub largest : {A : Type 0} → (A → ℕ) → List A → ℕ
+largest f [] = 0
+largest f (x ∷ xs) = max (f x) (largest f xs)
 
 -- Two lists of numbers are equal.
 unfoldable pub same : List ℕ → List ℕ → Bool

@@ -1,5 +1,6 @@
 -- Laws of rows and of matches.
 pub mod Rows
 pub mod Words
+pub mod Permits
 pub mod Cuts
 pub mod Tuples

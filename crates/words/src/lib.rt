@@ -1,7 +1,7 @@
-// Parts of lent words: cleared, copied, moved down.
+// Parts of lent words: cleared, copied, moved.
 ghost use mathlib.Core.Path.{_≡_};
 ghost use mathlib.Core.List.{_++_};
-ghost use Prim.Native.Nat.{_+_, _≤_};
+ghost use Prim.Native.Nat.{_+_, _-_, _≤_};
 ghost use lib.ListN.{length, take, drop, replicate};
 
 // Zeros in every word.
@@ -36,5 +36,18 @@ pub fn move_down(part: &mut [u32], from: usize, count: usize)
     while i < count {
         part[i] = part[from + i];
         i += 1;
+    }
+}
+
+// The first `count` words of a part, moved to its end. From the last to the first: no word is written over before it is read.
+pub fn move_to_end(part: &mut [u32], count: usize)
+    requires { ⌜ count ≤ length (now part) ⌝ }
+    ensures { λ _. ⌜ now (part .exit) ≡ take (length (now (part .entry)) - count) (now (part .entry)) ++ take count (now (part .entry)) ⌝ }
+{
+    let gap = part.len() - count;
+    let mut i = count;
+    while 0 < i {
+        i -= 1;
+        part[gap + i] = part[i];
     }
 }

@@ -1,4 +1,4 @@
-//! The graphs and queries of the document's worked cases, and two graphs for edges of any label.
+//! The graphs and queries of the document's worked cases, and graphs for edges of any label.
 use super::graph::Graph;
 use super::query::Query;
 
@@ -23,6 +23,11 @@ pub fn doubled() -> Graph {
 /// One pair, 0→1, of every label.
 pub fn bundle() -> Graph {
     Graph::new(vec![0; 2], (1..=255).map(|label| (0, label, 1)).collect())
+}
+
+/// Two pairs, 0→1 and 0→2, of every label.
+pub fn two_bundles() -> Graph {
+    Graph::new(vec![0; 3], (1..=255).flat_map(|label| [(0, label, 1), (0, label, 2)]).collect())
 }
 
 /// Q.

@@ -1,0 +1,79 @@
+//! Cases worked by hand, to which the judge and the library are held.
+use super::calls::{self, Input, Ran};
+use super::graph::Graph;
+use super::matcher::Matcher;
+use super::plan::{self, Operator};
+use super::query::Query;
+use super::random::Random;
+use super::{in_words, rules};
+
+pub struct Worked {
+    pub graph: Graph,
+    pub query: Query,
+    pub plan: Vec<Operator>,
+    pub rows: Vec<u32>,
+    pub build: u64,
+    pub probe: u64,
+    /// With the cache off, and on.
+    pub cost: [u64; 2],
+    pub need: [usize; 2],
+}
+
+/// A case without a join.
+pub fn case(graph: Graph, query: Query, plan: &[Operator], rows: &[u32], cost: [u64; 2], need: [usize; 2]) -> Worked {
+    Worked { graph, query, plan: plan.to_vec(), rows: rows.to_vec(), build: 0, probe: 0, cost, need }
+}
+
+impl Worked {
+    fn answer(&self, cache: bool) -> rules::Answer {
+        rules::Answer {
+            rows: self.rows.clone(),
+            count: self.rows.len() / self.query.vertices(),
+            cost: self.cost[usize::from(cache)],
+            build: self.build,
+            probe: self.probe,
+            need: self.need[usize::from(cache)],
+        }
+    }
+
+    /// The judge's readers, its rules, and the rules in words.
+    pub fn hold_judge(&self) {
+        let Worked { graph, query, plan, .. } = self;
+        assert_eq!(Query::read(&query.file()).as_ref(), Ok(query));
+        assert_eq!(plan::read(query, &plan::file(plan)).as_ref(), Ok(plan));
+        for cache in [false, true] {
+            let answer = rules::run(&Matcher::new(graph), query, plan, cache, 100).unwrap();
+            assert_eq!(answer, self.answer(cache), "{graph:?} {query:?} {plan:?}");
+            assert_eq!(answer, in_words::run(graph, query, plan, cache), "{graph:?} {query:?} {plan:?}");
+        }
+    }
+
+    /// The library, in every scratch up to beyond the need, and in lists around the rows.
+    pub fn hold_library(&self, r: &Random) {
+        let Worked { graph, query, plan, .. } = self;
+        for cache in [false, true] {
+            let (need, list) = (self.need[usize::from(cache)], self.rows.len());
+            let run = |scratch, list| run(r, graph, query, plan, cache, scratch, list);
+            for scratch in 0..need {
+                assert_eq!(run(scratch, list).refusal, 20, "{scratch} words: {graph:?} {query:?} {plan:?}");
+            }
+            for scratch in [need, need + 1, need + 40] {
+                assert_eq!(run(scratch, list), accepted(self.answer(cache)), "{graph:?} {query:?} {plan:?}");
+            }
+            assert_eq!(run(need, list + 40).refusal, 0);
+            if list > 0 {
+                assert_eq!(run(need, list - 1).refusal, 21);
+            }
+        }
+    }
+}
+
+fn accepted(answer: rules::Answer) -> Ran {
+    let rules::Answer { rows, count, cost, build, probe, .. } = answer;
+    Ran { refusal: 0, rows: count as u64, cost, build, probe, list: rows }
+}
+
+pub fn run(r: &Random, g: &Graph, q: &Query, p: &[Operator], cache: bool, scratch: usize, list: usize) -> Ran {
+    let input = Input { store: &g.store(), query: &q.file(), plan: &plan::file(p), cache };
+    calls::run(r, &input, scratch, list)
+}
