@@ -15,12 +15,14 @@ use Rattle.graph.specs.Graph.{Graph}
 use Rattle.graph.specs.Store.{graphIn, storeFault}
 use Rattle.query.specs.Query.{Query}
 use Rattle.query.specs.File.{queryOf}
-use Rattle.plan.specs.Plan.{Operator}
+use Rattle.plan.specs.Plan.{Operator, maxOperators}
 use Rattle.plan.specs.File.{operatorsOf, checkFault}
 use Rattle.execution.specs.declared.Record.{Record}
 use Rattle.execution.specs.declared.RunAnswer.{RunAnswer}
 use Rattle.execution.specs.Run.{counted, planRows, planCost, planBuild, planProbe, planNeed, planRecords, runFault, runAnswer, runList, runRecords, runScratch}
+use Rattle.execution.specs.Complete.{ListsEveryMatch}
 use Rattle.execution.proofs.Records.{count-records}
+use Rattle.execution.proofs.Demand.{run-lists-every-match}
 use Rattle.run.specs.inner.Ran.{Ran}
 use Rattle.run.specs.inner.Answered.{roomFault, recordsAt, Records, Answered, Settles}
 use Rattle.run.specs.declared.pile.Pile.{Pile}
@@ -210,15 +212,23 @@ stored-at k made records n e = rw e (go (eqb k 0))
 
 module _ (cache : Bool) (store query plan : List ℕ) (scratch : ℕ) (list after : List ℕ) (records : List Record) (r : Recorded)
     (h : Settles cache store query plan scratch list after (length records) r) where
+  -- There is room for what is to be stored, and it is kept.
+  pub may-store : (r .operators ≤ length records) × (r .operators ≤ length (r .records)) × (r .operators ≤ maxOperators)
+  may-store =
+      let n = sym (length-take (r .operators) (r .records)) ∙ ap length (h .records .are) ∙ sym (h .records .number) in
+      (h .fits, omega (arith, n), h .records .few)
+
   pub stored-records : take (r .operators) (r .records) ++ drop (r .operators) records ≡ runRecords cache store query plan scratch (length list) records
   unfolding runRecords
   stored-records =
       ap (λ (l : List Record). l ++ drop (r .operators) records) (h .records .are)
       ∙ stored-at (runFault cache store query plan scratch (length list) (length records)) _ records (r .operators) (h .records .number)
 
-  -- There are as many to store.
-  pub kept-records : r .operators ≤ length (r .records)
-  kept-records = let n = sym (length-take (r .operators) (r .records)) ∙ ap length (h .records .are) ∙ sym (h .records .number) in omega (arith, n)
+  -- Demand 3 of it.
+  pub stored-complete : (answer : RunAnswer) (left : List Record) → answer ≡ r .answer → left ≡ take (r .operators) (r .records) ++ drop (r .operators) records
+      → ListsEveryMatch cache store query plan scratch list after records left answer
+  stored-complete answer left e m =
+      rw (e ∙ h .answer, h .list, m ∙ stored-records) (run-lists-every-match cache store query plan scratch list records)
 
 -- The scratch after Run: its counted part, whatever a run left in it, is zeros.
 pub cleared-scratch : (k : ℕ) (before left zeros : List ℕ) → k ≡ counted (length before) → length left ≡ k → zeros ≡ replicate (length (take k (left ++ drop k before))) 0
