@@ -1,2 +1,3 @@
--- No public contract cites a definition of this crate: what Run answers stands in `execution`.
+-- What Run answers stands in `execution`; here is what it leaves in an array of records.
+pub mod Lending
 pub mod inner
