@@ -1,3 +1,2 @@
--- What Run answers stands in `execution`; here is what it leaves in an array of records.
-pub mod Lending
+-- No public contract cites a definition of this crate: what Run answers stands in `execution`.
 pub mod inner

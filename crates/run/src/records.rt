@@ -1,8 +1,8 @@
 // The records of a run: kept by value while it runs, stored in the lent ones when it is accepted.
+use crate::pile::Pile;
 use execution::Record;
 use execution::RunAnswer;
 use plan::Plan;
-use crate::pile::Pile;
 ghost use mathlib.Core.Path.{_≡_};
 ghost use mathlib.Core.List.{_++_};
 ghost use Prim.Native.Nat.{_≤_, _<_};

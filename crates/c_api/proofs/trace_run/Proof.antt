@@ -61,11 +61,25 @@ use Rattle.c_api.proofs.trace_run.Code as code
 abbrev stayed : Stays (f.ended .signature .params) (f.ended .kept)
 stayed = (
   stay-dropped (shrSliceOf (0 ∷ []) tt (plain (λ _. u32))) yes,
-  (stay-dropped (shrSliceOf (1 ∷ []) tt (plain (λ _. u8))) yes,
-  (stay-dropped (shrSliceOf (2 ∷ []) tt (plain (λ _. u8))) yes,
-  (stay-dropped (plain (λ _. bool)) yes,
-  (gave-slice (3 ∷ []) tt (plain (λ _. u32)), (gave-slice (4 ∷ []) tt (plain (λ _. u32)), (gave-slice (5 ∷ []) tt (plain (λ _. R.the-row)),
-  (gave-ref (6 ∷ []) tt (plain (λ _. u64)), (gave-ref (7 ∷ []) tt (plain (λ _. u64)), (gave-ref (8 ∷ []) tt (plain (λ _. u64)), (gave-ref (9 ∷ []) tt (plain (λ _. u64)), tt)))))))))),
+  (
+    stay-dropped (shrSliceOf (1 ∷ []) tt (plain (λ _. u8))) yes,
+    (
+      stay-dropped (shrSliceOf (2 ∷ []) tt (plain (λ _. u8))) yes,
+      (
+        stay-dropped (plain (λ _. bool)) yes,
+        (
+          gave-slice (3 ∷ []) tt (plain (λ _. u32)),
+          (
+            gave-slice (4 ∷ []) tt (plain (λ _. u32)),
+            (
+              gave-slice (5 ∷ []) tt (plain (λ _. R.the-row)),
+              (gave-ref (6 ∷ []) tt (plain (λ _. u64)), (gave-ref (7 ∷ []) tt (plain (λ _. u64)), (gave-ref (8 ∷ []) tt (plain (λ _. u64)), (gave-ref (9 ∷ []) tt (plain (λ _. u64)), tt)))),
+            ),
+          ),
+        ),
+      ),
+    ),
+  ),
 )
 
 module _ {M : Type 1} (𝓤 : URA M) (H : Heap 𝓤) (A : Atoms 𝓤) (mem : Memory → SProp 𝓤) (run : Routine → Fun 𝓤) where
@@ -185,7 +199,7 @@ module _ {M : Type 1} (𝓤 : URA M) (H : Heap 𝓤) (A : Atoms 𝓤) (W : Given
       (e₄ : ListsEveryMatch ca (st .now) (qu .now) (pl .now) (length (sc .now)) (li .now) lis (re .now) res r) (e : r ≡ record { refusal = r′; rows = v₆; cost = v₇; build = v₈; probe = v₉ })
       (s-long : length scs ≡ length (sc .now)) (l-long : length lis ≡ length (li .now)) (r-long : length res ≡ length (re .now)) where
     abbrev Had : List (Item 𝓤)
-    Had = ‵ (u32 .own r′ (w′ ∷ [])) ∷ four ∷ ‵ (lasts give.ended κs₄ (r, numbers) (tt, (v₆, (v₇, (v₈, (v₉, tt))))) ) ∷ six ∷ ‵ (finally R.the-row (re .name) res) ∷ ‵ (finally u32 (li .name) lis) ∷ ‵ (finally u32 (sc .name) scs) ∷ []
+    Had = ‵ (u32 .own r′ (w′ ∷ [])) ∷ four ∷ ‵ (lasts give.ended κs₄ (r, numbers) (tt, (v₆, (v₇, (v₈, (v₉, tt)))))) ∷ six ∷ ‵ (finally R.the-row (re .name) res) ∷ ‵ (finally u32 (li .name) lis) ∷ ‵ (finally u32 (sc .name) scs) ∷ []
 
     exits : ent 𝓤 (⋆ 𝓤 H A Had) (Post w′)
     exits =
@@ -222,7 +236,7 @@ module _ {M : Type 1} (𝓤 : URA M) (H : Heap 𝓤) (A : Atoms 𝓤) (W : Given
         use1 W (later (some (λ (r : RunAnswer). (six ⊛ ‵ (N.the-row .own r (w ∷ []))) ⊛ raw (ensured 𝓤 H A core.ended (core.clauses 𝓤 H A mem run) κs₆ a₁ tt r)))) (id⊢ 𝓤 _) $ await ! tt $ pick ! (λ r.
         split ! $ move ! (1 ∷ []) $ use1 W (some (λ (zs : Unit {0} × (Unit {0} × (Unit {0} × (Unit {0} × (List ℕ × (List ℕ × (List Record × Unit {0}))))))). ‵ (lasts core.ended κs₆ a₁ zs)
         ⊛ (raw (fact 𝓤 (r ≡ runAnswer ca (st .now) (qu .now) (pl .now) (length (sc .now)) (length (li .now)) (length (re .now)))) ⊛ (raw (fact 𝓤 ((zs .1 .1 .1 .1 .1 .0) ≡ runList ca (st .now) (qu .now) (pl .now) (length (sc .now)) (li .now) (length (re .now)))) ⊛ (raw (fact 𝓤 ((zs .1 .1 .1 .1 .1 .1 .0) ≡ runRecords ca (st .now) (qu .now) (pl .now) (length (sc .now)) (length (li .now)) (re .now))) ⊛ (raw (fact 𝓤 ((zs .1 .1 .1 .1 .0) ≡ runScratch (sc .now))) ⊛ raw (fact 𝓤 (ListsEveryMatch ca (st .now) (qu .now) (pl .now) (length (sc .now)) (li .now) (zs .1 .1 .1 .1 .1 .0) (re .now) (zs .1 .1 .1 .1 .1 .1 .0) r)))))))) (id⊢ 𝓤 _) $ pick ! (λ zs.
-        split ! $ move ! (1 ∷ []) $ split ! $ heard ! (r ≡ runAnswer ca (st .now) (qu .now) (pl .now) (length (sc .now)) (length (li .now)) (length (re .now))) (λ e₀. split ! $ heard ! ((zs .1 .1 .1 .1 .1 .0) ≡ runList ca (st .now) (qu .now) (pl .now) (length (sc .now)) (li .now) (length (re .now))) (λ e₁. split ! $ heard ! ((zs .1 .1 .1 .1 .1 .1 .0) ≡ runRecords ca (st .now) (qu .now) (pl .now) (length (sc .now)) (length (li .now)) (re .now)) (λ e₂. split ! $ heard ! ((zs .1 .1 .1 .1 .0) ≡ runScratch (sc .now)) (λ e₃. heard ! (ListsEveryMatch ca (st .now) (qu .now) (pl .now) (length (sc .now)) (li .now) (zs .1 .1 .1 .1 .1 .0) (re .now) (zs .1 .1 .1 .1 .1 .1 .0) r) (λ e₄. 
+        split ! $ move ! (1 ∷ []) $ split ! $ heard ! (r ≡ runAnswer ca (st .now) (qu .now) (pl .now) (length (sc .now)) (length (li .now)) (length (re .now))) (λ e₀. split ! $ heard ! ((zs .1 .1 .1 .1 .1 .0) ≡ runList ca (st .now) (qu .now) (pl .now) (length (sc .now)) (li .now) (length (re .now))) (λ e₁. split ! $ heard ! ((zs .1 .1 .1 .1 .1 .1 .0) ≡ runRecords ca (st .now) (qu .now) (pl .now) (length (sc .now)) (length (li .now)) (re .now)) (λ e₂. split ! $ heard ! ((zs .1 .1 .1 .1 .0) ≡ runScratch (sc .now)) (λ e₃. heard ! (ListsEveryMatch ca (st .now) (qu .now) (pl .now) (length (sc .now)) (li .now) (zs .1 .1 .1 .1 .1 .0) (re .now) (zs .1 .1 .1 .1 .1 .1 .0) r) (λ e₄.
         fsplit ! $ forgo ! $ fsplit ! $ forgo ! $ fsplit ! $ forgo ! $ fsplit ! $ forgo ! $ fsplit ! $ fsplit ! $ move ! (1 ∷ []) $ feqL ! (λ s-long. move ! (1 ∷ []) $ fsplit ! $ fsplit ! $ move ! (1 ∷ []) $ feqL ! (λ l-long.
         move ! (1 ∷ []) $ fsplit ! $ fsplit ! $ move ! (1 ∷ []) $ feqL ! (λ r-long. move ! (1 ∷ []) $ forgo ! $
         -- [the last records; the last list; the last scratch; the tokens and the result; four tokens; what the numbers own; _22; …]
@@ -250,9 +264,28 @@ module _ {M : Type 1} (𝓤 : URA M) (H : Heap 𝓤) (A : Atoms 𝓤) (W : Given
       → Walks 𝓤 H A f.ended stayed (WpFn 𝓤 H C Λ code.function) (f.clauses 𝓤 H A mem run)
   trace-run-walks C Λ fm known-run known-give = walked 𝓤 H A f.ended stayed (f.clauses 𝓤 H A mem run) (WpFn 𝓤 H C Λ code.function)
       (λ κs. (slice-vals, (slice-vals, (slice-vals, (bool-vals, (slice-vals, (slice-vals, (slice-vals, (ptr-vals, (ptr-vals, (ptr-vals, (ptr-vals, tt))))))))))))
-      (λ κs. (shr-slice-tells (named 0) (κs .0) u32, (shr-slice-tells (named 1) (κs .1 .0) u8, (shr-slice-tells (named 2) (κs .1 .1 .0) u8, (bool-tells,
-      (mut-slice-tells (named 3) (κs .1 .1 .1 .0) u32, (mut-slice-tells (named 4) (κs .1 .1 .1 .1 .0) u32, (mut-slice-tells (named 5) (κs .1 .1 .1 .1 .1 .0) R.the-row,
-      (mut-tells (named 6) (κs .1 .1 .1 .1 .1 .1 .0) u64, (mut-tells (named 7) (κs .1 .1 .1 .1 .1 .1 .1 .0) u64, (mut-tells (named 8) (κs .1 .1 .1 .1 .1 .1 .1 .1 .0) u64, (mut-tells (named 9) (κs .1 .1 .1 .1 .1 .1 .1 .1 .1 .0) u64, tt))))))))))))
+      (λ κs. (
+        shr-slice-tells (named 0) (κs .0) u32,
+        (
+          shr-slice-tells (named 1) (κs .1 .0) u8,
+          (
+            shr-slice-tells (named 2) (κs .1 .1 .0) u8,
+            (
+              bool-tells,
+              (
+                mut-slice-tells (named 3) (κs .1 .1 .1 .0) u32,
+                (
+                  mut-slice-tells (named 4) (κs .1 .1 .1 .1 .0) u32,
+                  (
+                    mut-slice-tells (named 5) (κs .1 .1 .1 .1 .1 .0) R.the-row,
+                    (mut-tells (named 6) (κs .1 .1 .1 .1 .1 .1 .0) u64, (mut-tells (named 7) (κs .1 .1 .1 .1 .1 .1 .1 .0) u64, (mut-tells (named 8) (κs .1 .1 .1 .1 .1 .1 .1 .1 .0) u64, (mut-tells (named 9) (κs .1 .1 .1 .1 .1 .1 .1 .1 .1 .0) u64, tt)))),
+                  ),
+                ),
+              ),
+            ),
+          ),
+        ),
+      ))
       (λ κs qs bounds a g are. via 𝓤 _ (fst∗ 𝓤 _ (emp 𝓤))
       (walk 𝓤 H A W mem run (κs .0) (κs .1 .0) (κs .1 .1 .0) (κs .1 .1 .1 .0) (κs .1 .1 .1 .1 .0) (κs .1 .1 .1 .1 .1 .0) (κs .1 .1 .1 .1 .1 .1 .0) (κs .1 .1 .1 .1 .1 .1 .1 .0) (κs .1 .1 .1 .1 .1 .1 .1 .1 .0) (κs .1 .1 .1 .1 .1 .1 .1 .1 .1 .0) (qs .0) (qs .1 .0) (qs .1 .1 .0) (qs .1 .1 .1 .0) (qs .1 .1 .1 .1 .0) (qs .1 .1 .1 .1 .1 .0) (qs .1 .1 .1 .1 .1 .1 .0) (qs .1 .1 .1 .1 .1 .1 .1 .0) (qs .1 .1 .1 .1 .1 .1 .1 .1 .0) (qs .1 .1 .1 .1 .1 .1 .1 .1 .1 .0)
       (a .0) (a .1 .0) (a .1 .1 .0) (a .1 .1 .1 .0) (a .1 .1 .1 .1 .0) (a .1 .1 .1 .1 .1 .0) (a .1 .1 .1 .1 .1 .1 .0) (a .1 .1 .1 .1 .1 .1 .1 .0) (a .1 .1 .1 .1 .1 .1 .1 .1 .0) (a .1 .1 .1 .1 .1 .1 .1 .1 .1 .0) (a .1 .1 .1 .1 .1 .1 .1 .1 .1 .1 .0) C Λ fm known-run known-give
@@ -261,11 +294,25 @@ module _ {M : Type 1} (𝓤 : URA M) (H : Heap 𝓤) (A : Atoms 𝓤) (W : Given
   goes : AllGo 𝓤 H A W 10 (f.signature .params) (f.ended .kept) stayed
   goes = (
     goes-dropped 𝓤 H A W 10 (shrSliceOf (0 ∷ []) tt (plain (λ _. u32))) yes (λ κs x f. refl),
-    (goes-dropped 𝓤 H A W 10 (shrSliceOf (1 ∷ []) tt (plain (λ _. u8))) yes (λ κs x f. refl),
-    (goes-dropped 𝓤 H A W 10 (shrSliceOf (2 ∷ []) tt (plain (λ _. u8))) yes (λ κs x f. refl),
-    (goes-dropped 𝓤 H A W 10 (plain (λ _. bool)) yes (λ κs x f. refl),
-    (goes-gave-slice 𝓤 H A W 10 3 tt (plain (λ _. u32)), (goes-gave-slice 𝓤 H A W 10 4 tt (plain (λ _. u32)), (goes-gave-slice 𝓤 H A W 10 5 tt (plain (λ _. R.the-row)),
-    (goes-gave-ref 𝓤 H A W 10 6 tt (plain (λ _. u64)), (goes-gave-ref 𝓤 H A W 10 7 tt (plain (λ _. u64)), (goes-gave-ref 𝓤 H A W 10 8 tt (plain (λ _. u64)), (goes-gave-ref 𝓤 H A W 10 9 tt (plain (λ _. u64)), tt)))))))))),
+    (
+      goes-dropped 𝓤 H A W 10 (shrSliceOf (1 ∷ []) tt (plain (λ _. u8))) yes (λ κs x f. refl),
+      (
+        goes-dropped 𝓤 H A W 10 (shrSliceOf (2 ∷ []) tt (plain (λ _. u8))) yes (λ κs x f. refl),
+        (
+          goes-dropped 𝓤 H A W 10 (plain (λ _. bool)) yes (λ κs x f. refl),
+          (
+            goes-gave-slice 𝓤 H A W 10 3 tt (plain (λ _. u32)),
+            (
+              goes-gave-slice 𝓤 H A W 10 4 tt (plain (λ _. u32)),
+              (
+                goes-gave-slice 𝓤 H A W 10 5 tt (plain (λ _. R.the-row)),
+                (goes-gave-ref 𝓤 H A W 10 6 tt (plain (λ _. u64)), (goes-gave-ref 𝓤 H A W 10 7 tt (plain (λ _. u64)), (goes-gave-ref 𝓤 H A W 10 8 tt (plain (λ _. u64)), (goes-gave-ref 𝓤 H A W 10 9 tt (plain (λ _. u64)), tt)))),
+              ),
+            ),
+          ),
+        ),
+      ),
+    ),
   )
 
 trace-run-meets : {M : Type 1} (𝓤 : URA M) (H : Heap 𝓤) (A : Atoms 𝓤) → Given 𝓤 H A → (mem : Memory → SProp 𝓤) (run : Routine → Fun 𝓤) (𝓣 : Tables 𝓤 H)

@@ -6,8 +6,8 @@ use Prim.Native.Nat.{ℕ}
 use lib.ListN.{length, take, drop}
 use Rattle.execution.specs.declared.Record.{Record}
 use Rattle.execution.specs.Run.{runAnswer, runList, runRecords, runScratch}
-use Rattle.run.specs.declared.lending.Lending.{Lending}
-use Rattle.run.specs.declared.lending.Filled.{Filled}
+use Rattle.lending.specs.declared.Lending.{Lending}
+use Rattle.lending.specs.declared.Filled.{Filled}
 
 -- The records that are lent: the first ones of the array.
 abbrev pub lentIn : Lending → List Record

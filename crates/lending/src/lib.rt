@@ -1,11 +1,11 @@
 // Run for callers that hold the records in an array: it lends them as the slice that Run takes.
-use crate::run;
 use execution::Record;
 use execution::RunAnswer;
 use plan::Plan;
+use run::run;
 ghost use Prim.Native.Nat.{_≤_};
 ghost use Rattle.plan.specs.Plan.{maxOperators};
-ghost use Rattle.run.specs.Lending.{Fills};
+ghost use Rattle.lending.specs.Lending.{Fills};
 
 // The records in an array, and how many of them are lent; all, where that is more than there are.
 pub struct Lending {
@@ -34,7 +34,15 @@ fn lend(
 {
     let lent = held.lent;
     let mut records = held.records;
-    let answer = run(store, query, plan, cache, scratch, list, &mut records[..lent]);
+    let answer = run(
+        store,
+        query,
+        plan,
+        cache,
+        scratch,
+        list,
+        &mut records[..lent],
+    );
     Filled { answer, records }
 }
 

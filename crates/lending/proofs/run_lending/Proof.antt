@@ -1,4 +1,4 @@
--- `run::lending::run_lending` meets its contract: more records than there are count as all. Assumes nothing.
+-- `lending::run_lending` meets its contract: more records than there are count as all. Assumes nothing.
 use mathlib.Core.Path.{_≡_, sym, _∙_}
 use mathlib.Core.Bool.{Bool}
 use mathlib.Core.List.{List}
@@ -10,13 +10,13 @@ use denote.Struct.Laws as LL
 use borrow.Author.Needs.{needs}
 use Rattle.execution.specs.declared.Record.{Record}
 use Rattle.execution.proofs.Record as R
-use Rattle.run.specs.Lending.{lentIn, Fills}
-use Rattle.run.specs.declared.lending.Lending.{Lending}
-use Rattle.run.specs.declared.lending.Filled.{Filled}
-use Rattle.run.proofs.lending.Lending as D
-use Rattle.run.proofs.lending.Lending.Laws as D′
-use Rattle.run.proofs.lending.run_lending.Statement.{statement}
-use Rattle.run.proofs.lending.run_lending.Tie as tie
+use Rattle.lending.specs.Lending.{lentIn, Fills}
+use Rattle.lending.specs.declared.Lending.{Lending}
+use Rattle.lending.specs.declared.Filled.{Filled}
+use Rattle.lending.proofs.Lending as D
+use Rattle.lending.proofs.Lending.Laws as D′
+use Rattle.lending.proofs.run_lending.Statement.{statement}
+use Rattle.lending.proofs.run_lending.Tie as tie
 
 -- All records are lent, whether as many or more are asked for.
 fills-all : (cache : Bool) (store query plan scratch cleared list listed : List ℕ) (records : List Record) (k : ℕ) (r : Filled) → length records ≡ 31 → 31 < k

@@ -1,4 +1,4 @@
--- `run::lending::lend` meets its contract: a walk of its MIR, by hand. The array is opened to its records, of which the first are lent for a lifetime that is made
+-- `lending::lend` meets its contract: a walk of its MIR, by hand. The array is opened to its records, of which the first are lent for a lifetime that is made
 -- for the call of `run`; it ends after the call, the records come back, and the array is whole again. Assumes nothing.
 use mathlib.Core.Path.{_≡_, refl, sym, _∙_, ap, subst}
 use mathlib.Core.Bool.{Bool}
@@ -59,29 +59,35 @@ use Rattle.execution.proofs.Record as R
 use Rattle.execution.proofs.Record.Laws as R′
 use Rattle.execution.proofs.RunAnswer as N
 use Rattle.execution.proofs.RunAnswer.Laws as N′
-use Rattle.run.specs.Lending.{lentIn, Fills}
-use Rattle.run.specs.declared.lending.Lending.{Lending}
-use Rattle.run.specs.declared.lending.Filled.{Filled}
-use Rattle.run.proofs.lending.Lending as D
-use Rattle.run.proofs.lending.Lending.Laws as D′
-use Rattle.run.proofs.lending.Filled as F
-use Rattle.run.proofs.lending.Filled.Laws as F′
+use Rattle.lending.specs.Lending.{lentIn, Fills}
+use Rattle.lending.specs.declared.Lending.{Lending}
+use Rattle.lending.specs.declared.Filled.{Filled}
+use Rattle.lending.proofs.Lending as D
+use Rattle.lending.proofs.Lending.Laws as D′
+use Rattle.lending.proofs.Filled as F
+use Rattle.lending.proofs.Filled.Laws as F′
 use Rattle.run.proofs.run as core
 use Rattle.run.proofs.run.Symbol as core-def
 use Rattle.run.proofs.run.Symbol.{name as #run}
 use Rattle.run.proofs.run.Met as core-thm
-use Rattle.run.proofs.lending.lend.Key.{name as #lend}
-use Rattle.run.proofs.lending.lend as f
-use Rattle.run.proofs.lending.lend.Statement as stated
-use Rattle.run.proofs.lending.lend.Code as code
+use Rattle.lending.proofs.lend.Key.{name as #lend}
+use Rattle.lending.proofs.lend as f
+use Rattle.lending.proofs.lend.Statement as stated
+use Rattle.lending.proofs.lend.Code as code
 
 abbrev stayed : Stays (f.ended .signature .params) (f.ended .kept)
 stayed = (
   stay-dropped (shrSliceOf (0 ∷ []) tt (plain (λ _. u32))) yes,
-  (stay-dropped (shrSliceOf (1 ∷ []) tt (plain (λ _. u8))) yes,
-  (stay-dropped (shrSliceOf (2 ∷ []) tt (plain (λ _. u8))) yes,
-  (stay-dropped (plain (λ _. bool)) yes,
-  (gave-slice (3 ∷ []) tt (plain (λ _. u32)), (gave-slice (4 ∷ []) tt (plain (λ _. u32)), (stay-dropped (plain (λ _. D.the-row)) yes, tt)))))),
+  (
+    stay-dropped (shrSliceOf (1 ∷ []) tt (plain (λ _. u8))) yes,
+    (
+      stay-dropped (shrSliceOf (2 ∷ []) tt (plain (λ _. u8))) yes,
+      (
+        stay-dropped (plain (λ _. bool)) yes,
+        (gave-slice (3 ∷ []) tt (plain (λ _. u32)), (gave-slice (4 ∷ []) tt (plain (λ _. u32)), (stay-dropped (plain (λ _. D.the-row)) yes, tt))),
+      ),
+    ),
+  ),
 )
 
 -- an array of records, and the same as a field of a struct, whose elements are tuples
@@ -313,7 +319,7 @@ module _ {M : Type 1} (𝓤 : URA M) (H : Heap 𝓤) (A : Atoms 𝓤) (W : Given
         use1 W (later (some (λ (r : RunAnswer). (six l₉ α γ ⊛ ‵ (N.the-row .own r (w ∷ []))) ⊛ raw (ensured 𝓤 H A core.ended (core.clauses 𝓤 H A mem′ run) (κs₆ l₉ α γ) (a₁ l₉ α γ) tt r)))) (id⊢ 𝓤 _) $ await ! tt $ pick ! (λ r.
         split ! $ move ! (1 ∷ []) $ use1 W (some (λ (zs : Unit {0} × (Unit {0} × (Unit {0} × (Unit {0} × (List ℕ × (List ℕ × (List Record × Unit {0}))))))). ‵ (lasts core.ended (κs₆ l₉ α γ) (a₁ l₉ α γ) zs)
         ⊛ (raw (fact 𝓤 (r ≡ runAnswer ca (st .now) (qu .now) (pl .now) (length (sc .now)) (length (li .now)) (length (lentIn h)))) ⊛ (raw (fact 𝓤 ((zs .1 .1 .1 .1 .1 .0) ≡ runList ca (st .now) (qu .now) (pl .now) (length (sc .now)) (li .now) (length (lentIn h)))) ⊛ (raw (fact 𝓤 ((zs .1 .1 .1 .1 .1 .1 .0) ≡ runRecords ca (st .now) (qu .now) (pl .now) (length (sc .now)) (length (li .now)) (lentIn h))) ⊛ (raw (fact 𝓤 ((zs .1 .1 .1 .1 .0) ≡ runScratch (sc .now))) ⊛ raw (fact 𝓤 (ListsEveryMatch ca (st .now) (qu .now) (pl .now) (length (sc .now)) (li .now) (zs .1 .1 .1 .1 .1 .0) (lentIn h) (zs .1 .1 .1 .1 .1 .1 .0) r)))))))) (id⊢ 𝓤 _) $ pick ! (λ zs.
-        split ! $ move ! (1 ∷ []) $ split ! $ heard ! (r ≡ runAnswer ca (st .now) (qu .now) (pl .now) (length (sc .now)) (length (li .now)) (length (lentIn h))) (λ e₀. split ! $ heard ! ((zs .1 .1 .1 .1 .1 .0) ≡ runList ca (st .now) (qu .now) (pl .now) (length (sc .now)) (li .now) (length (lentIn h))) (λ e₁. split ! $ heard ! ((zs .1 .1 .1 .1 .1 .1 .0) ≡ runRecords ca (st .now) (qu .now) (pl .now) (length (sc .now)) (length (li .now)) (lentIn h)) (λ e₂. split ! $ heard ! ((zs .1 .1 .1 .1 .0) ≡ runScratch (sc .now)) (λ e₃. heard ! (ListsEveryMatch ca (st .now) (qu .now) (pl .now) (length (sc .now)) (li .now) (zs .1 .1 .1 .1 .1 .0) (lentIn h) (zs .1 .1 .1 .1 .1 .1 .0) r) (λ e₄. 
+        split ! $ move ! (1 ∷ []) $ split ! $ heard ! (r ≡ runAnswer ca (st .now) (qu .now) (pl .now) (length (sc .now)) (length (li .now)) (length (lentIn h))) (λ e₀. split ! $ heard ! ((zs .1 .1 .1 .1 .1 .0) ≡ runList ca (st .now) (qu .now) (pl .now) (length (sc .now)) (li .now) (length (lentIn h))) (λ e₁. split ! $ heard ! ((zs .1 .1 .1 .1 .1 .1 .0) ≡ runRecords ca (st .now) (qu .now) (pl .now) (length (sc .now)) (length (li .now)) (lentIn h)) (λ e₂. split ! $ heard ! ((zs .1 .1 .1 .1 .0) ≡ runScratch (sc .now)) (λ e₃. heard ! (ListsEveryMatch ca (st .now) (qu .now) (pl .now) (length (sc .now)) (li .now) (zs .1 .1 .1 .1 .1 .0) (lentIn h) (zs .1 .1 .1 .1 .1 .1 .0) r) (λ e₄.
         fsplit ! $ forgo ! $ fsplit ! $ forgo ! $ fsplit ! $ forgo ! $ fsplit ! $ forgo ! $ fsplit ! $ fsplit ! $ move ! (1 ∷ []) $ feqL ! (λ s-long. move ! (1 ∷ []) $ fsplit ! $ fsplit ! $ move ! (1 ∷ []) $ feqL ! (λ l-long.
         move ! (1 ∷ []) $ fsplit ! $ fsplit ! $ move ! (1 ∷ []) $ feqL ! (λ r-long. move ! (1 ∷ []) $ forgo ! $
         -- [the last records; the last list; the last scratch; the tokens and the answer; the lender's part; the other records; _17; …]
@@ -340,8 +346,19 @@ module _ {M : Type 1} (𝓤 : URA M) (H : Heap 𝓤) (A : Atoms 𝓤) (W : Given
   lend-walks : (C : Calls 𝓤 H) (Λ : Loops 𝓤 H) → FmC 𝓤 H (W .laws) C → Triple 𝓤 (C #run) (Run 𝓤 H A mem′ run) → Walks 𝓤 H A f.ended stayed (WpFn 𝓤 H C Λ code.function) (f.clauses 𝓤 H A mem′ run)
   lend-walks C Λ fm known-run = walked 𝓤 H A f.ended stayed (f.clauses 𝓤 H A mem′ run) (WpFn 𝓤 H C Λ code.function)
       (λ κs. (slice-vals, (slice-vals, (slice-vals, (bool-vals, (slice-vals, (slice-vals, (LL.vals D.the-type D′.the-laws, tt))))))))
-      (λ κs. (shr-slice-tells (named 0) (κs .0) u32, (shr-slice-tells (named 1) (κs .1 .0) u8, (shr-slice-tells (named 2) (κs .1 .1 .0) u8, (bool-tells,
-      (mut-slice-tells (named 3) (κs .1 .1 .1 .0) u32, (mut-slice-tells (named 4) (κs .1 .1 .1 .1 .0) u32, (LL.tells D.the-type D′.the-laws, tt))))))))
+      (λ κs. (
+        shr-slice-tells (named 0) (κs .0) u32,
+        (
+          shr-slice-tells (named 1) (κs .1 .0) u8,
+          (
+            shr-slice-tells (named 2) (κs .1 .1 .0) u8,
+            (
+              bool-tells,
+              (mut-slice-tells (named 3) (κs .1 .1 .1 .0) u32, (mut-slice-tells (named 4) (κs .1 .1 .1 .1 .0) u32, (LL.tells D.the-type D′.the-laws, tt))),
+            ),
+          ),
+        ),
+      ))
       (λ κs qs bounds a g are. needs 𝓤 (a .1 .1 .1 .1 .1 .1 .0 .lent ≤ 31) _ (λ few.
       walk 𝓤 H A W mem′ run (κs .0) (κs .1 .0) (κs .1 .1 .0) (κs .1 .1 .1 .0) (κs .1 .1 .1 .1 .0) (qs .0) (qs .1 .0) (qs .1 .1 .0) (qs .1 .1 .1 .0) (qs .1 .1 .1 .1 .0)
       (a .0) (a .1 .0) (a .1 .1 .0) (a .1 .1 .1 .0) (a .1 .1 .1 .1 .0) (a .1 .1 .1 .1 .1 .0) (a .1 .1 .1 .1 .1 .1 .0) (are .1 .1 .1 .1 .1 .1 .0) few C Λ fm known-run
@@ -350,10 +367,16 @@ module _ {M : Type 1} (𝓤 : URA M) (H : Heap 𝓤) (A : Atoms 𝓤) (W : Given
   goes : AllGo 𝓤 H A W 5 (f.signature .params) (f.ended .kept) stayed
   goes = (
     goes-dropped 𝓤 H A W 5 (shrSliceOf (0 ∷ []) tt (plain (λ _. u32))) yes (λ κs x f. refl),
-    (goes-dropped 𝓤 H A W 5 (shrSliceOf (1 ∷ []) tt (plain (λ _. u8))) yes (λ κs x f. refl),
-    (goes-dropped 𝓤 H A W 5 (shrSliceOf (2 ∷ []) tt (plain (λ _. u8))) yes (λ κs x f. refl),
-    (goes-dropped 𝓤 H A W 5 (plain (λ _. bool)) yes (λ κs x f. refl),
-    (goes-gave-slice 𝓤 H A W 5 3 tt (plain (λ _. u32)), (goes-gave-slice 𝓤 H A W 5 4 tt (plain (λ _. u32)), (goes-dropped 𝓤 H A W 5 (plain (λ _. D.the-row)) yes (λ κs x f. refl), tt)))))),
+    (
+      goes-dropped 𝓤 H A W 5 (shrSliceOf (1 ∷ []) tt (plain (λ _. u8))) yes (λ κs x f. refl),
+      (
+        goes-dropped 𝓤 H A W 5 (shrSliceOf (2 ∷ []) tt (plain (λ _. u8))) yes (λ κs x f. refl),
+        (
+          goes-dropped 𝓤 H A W 5 (plain (λ _. bool)) yes (λ κs x f. refl),
+          (goes-gave-slice 𝓤 H A W 5 3 tt (plain (λ _. u32)), (goes-gave-slice 𝓤 H A W 5 4 tt (plain (λ _. u32)), (goes-dropped 𝓤 H A W 5 (plain (λ _. D.the-row)) yes (λ κs x f. refl), tt))),
+        ),
+      ),
+    ),
   )
 
 lend-meets : {M : Type 1} (𝓤 : URA M) (H : Heap 𝓤) (A : Atoms 𝓤) → Given 𝓤 H A → (mem′ : Memory → SProp 𝓤) (run : Routine → Fun 𝓤) (𝓣 : Tables 𝓤 H) → Triple 𝓤 (𝓣 .C #run) (Run 𝓤 H A mem′ run)
