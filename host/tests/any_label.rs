@@ -115,6 +115,8 @@ impl Worked {
             build: self.build,
             probe: self.probe,
             need: self.need,
+            // Not worked by hand: those of the rules in words.
+            records: in_words::run(&self.graph, &self.query, &self.plan, cache).records,
         }
     }
 }
@@ -155,8 +157,8 @@ fn worked_cases_by_the_library() {
 }
 
 fn accepted(answer: rules::Answer) -> Ran {
-    let rules::Answer { rows, count, cost, build, probe, .. } = answer;
-    Ran { refusal: 0, rows: count as u64, cost, build, probe, list: rows }
+    let rules::Answer { rows, count, cost, build, probe, records, .. } = answer;
+    Ran { refusal: 0, rows: count as u64, cost, build, probe, list: rows, records }
 }
 
 fn run(r: &Random, g: &Graph, q: &Query, p: &[Operator], cache: bool, scratch: usize, list: usize) -> Ran {
@@ -187,7 +189,10 @@ fn compare(seeds: std::ops::Range<u64>, twins: impl Fn(Graph, Query) -> [(Graph,
         rows += one.rows;
         dearer += usize::from(two.cost > one.cost);
         let cost = one.cost;
-        assert_eq!(two, Ran { cost: two.cost, ..one }, "{other_graph:?} {other_query:?} {other_plan:?}");
+        let pairs = || one.records.iter().zip(&two.records);
+        assert!(pairs().all(|(a, b)| a.cost <= b.cost), "{other_graph:?} {other_query:?} {other_plan:?}");
+        let records = pairs().map(|(a, b)| trace::Record { cost: b.cost, ..*a }).collect();
+        assert_eq!(two, Ran { cost: two.cost, records, ..one }, "{other_graph:?} {other_query:?} {other_plan:?}");
         assert!(two.cost >= cost, "{other_graph:?} {other_query:?} {other_plan:?}: {} and {cost}", two.cost);
     });
     (rows, dearer)

@@ -24,9 +24,13 @@ pub fn marked(lent: usize) -> Lending {
     }
 }
 
+fn wide(x: u8) -> usize {
+    x as usize
+}
+
 // The number of operators that the plan's file begins with, in 5 bits.
 pub fn operators(files: &Files) -> usize {
-    files[runs::PLAN] as usize / 8
+    wide(files[runs::PLAN]) / 8
 }
 
 // The records from an index on are as before.

@@ -125,12 +125,6 @@ module _ (cache : Bool) (store query plan : List ℕ) (scratch : ℕ) (list : Li
   unfolding runFault
   fault-check bad = first-some _ _ bad
 
-  pub fault-records : checkFault query plan ≡ 0 → lent < length (operatorsOf plan) → fault ≡ 22
-  unfolding runFault
-  fault-records checked less =
-      let few = lt-ltb lent (length (operatorsOf plan)) less in
-      first-cons _ _ checked ∙ rw few (first-some 22 _ (λ h. absurd (omega arith)))
-
   module _ (checked : checkFault query plan ≡ 0) (room : length (operatorsOf plan) ≤ lent) where
     no-22 : refuse 22 (ltb lent (length (operatorsOf plan))) ≡ 0
     no-22 = zero-refuse 22 _ (le-ltb lent (length (operatorsOf plan)) room)
