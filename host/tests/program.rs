@@ -159,10 +159,10 @@ fn links() {
     }
 }
 
-/// A graph of so many vertices and edges: from each vertex at most five edges, of labels 1 to 5.
+/// A graph of so many vertices and edges: from each vertex at most five edges, of labels 1 to 5, none to itself.
 fn sized(n: u16, m: u16) -> Graph {
     assert!(m <= 5 * n);
-    let edges = (0..m).map(|i| (i / 5, 1 + (i % 5) as u8, (i * 7) % n)).collect();
+    let edges = (0..m).map(|i| (i / 5, 1 + (i % 5) as u8, (i / 5 + 7 + i % 5) % n)).collect();
     Graph { labels: vec![0; n.into()], edges }
 }
 
@@ -371,8 +371,8 @@ fn every_refusal() {
 #[test]
 fn random_files() {
     let (mut accepted, mut refusals) = (0, BTreeSet::new());
-    each(0..1_000, |r| {
-        let graph = Graph::random(r, 9);
+    each(0..1_500, |r| {
+        let graph = Graph::random(r, 14);
         let query = Query::random(r, 5);
         let mut operators = plan::random(r, &query);
         if r.chance(1, 6) {
