@@ -78,7 +78,7 @@ fn judge_list(
     }
 }
 
-// As many records as the plan has operators serve as well; one fewer gives 22, also where the list is a word too short.
+// As many records as the plan has operators serve as well; one fewer gives 22, also where the list is too short.
 fn judge_records(
     store: &Store,
     files: &Files,
@@ -91,7 +91,7 @@ fn judge_records(
     w.records = records::operators(files);
     judge_again(store, files, w, a, first, 0, tally::RECORDS, tally);
     w.records = sub(w.records, 1);
-    w.list = sub(with.list, 1);
+    w.list = with.list / 2;
     let refusal = judge_again(store, files, w, a, first, 22, tally::RECORDS, tally);
     tally::judge(tally, tally::RECORDS, refusal == 22);
 }
