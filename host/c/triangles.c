@@ -1,5 +1,6 @@
-/* Loads a graph of four vertices, lists its triangles, and shows a refusal. */
+/* Loads a graph of four vertices, lists its triangles with the work of each operator, and shows two refusals. */
 #include <inttypes.h>
+#include <stddef.h>
 #include <stdio.h>
 
 #include "trace.h"
@@ -15,6 +16,11 @@ static const uint8_t query[] = {0x31, 0x80, 0x00, 0x00, 0x00, 0x00, 0x00, 0x02, 
 static const uint8_t plan[] = {0x10, 0x05, 0x00};
 
 static uint32_t store[26], scratch[17], list[6];
+static struct trace_record records[2];
+
+/* The layout that the library was compiled with. */
+_Static_assert(sizeof(struct trace_record) == 16 && _Alignof(struct trace_record) == 8, "a record is two numbers of 8 bytes");
+_Static_assert(offsetof(struct trace_record, rows) == 0 && offsetof(struct trace_record, cost) == 8, "the rows come first");
 
 int main(void)
 {
@@ -23,7 +29,7 @@ int main(void)
     if (refusal == 0)
         refusal = trace_check_plan(query, sizeof query, plan, sizeof plan, &operators);
     if (refusal == 0)
-        refusal = trace_run(store, 26, query, sizeof query, plan, sizeof plan, true, scratch, 17, list, 6,
+        refusal = trace_run(store, 26, query, sizeof query, plan, sizeof plan, true, scratch, 17, list, 6, records, 2,
                             &rows, &cost, &build, &probe);
     if (refusal != 0) {
         printf("refused %" PRIu32 "\n", refusal);
@@ -34,8 +40,14 @@ int main(void)
     for (uint64_t i = 0; i < rows; i++)
         printf("%" PRIu32 " %" PRIu32 " %" PRIu32 "\n", list[3 * i], list[3 * i + 1], list[3 * i + 2]);
 
-    refusal = trace_run(store, 26, query, sizeof query, plan, sizeof plan, true, scratch, 16, list, 6,
+    for (uint64_t i = 0; i < operators; i++)
+        printf("operator %" PRIu64 ": rows %" PRIu64 " cost %" PRIu64 "\n", i, records[i].rows, records[i].cost);
+
+    refusal = trace_run(store, 26, query, sizeof query, plan, sizeof plan, true, scratch, 16, list, 6, records, 2,
                         &rows, &cost, &build, &probe);
     printf("with 16 words of scratch: %s, rows %" PRIu64 "\n", refusal == TRACE_SCRATCH_SMALL ? "refused 20" : "accepted", rows);
+    refusal = trace_run(store, 26, query, sizeof query, plan, sizeof plan, true, scratch, 16, list, 6, records, 1,
+                        &rows, &cost, &build, &probe);
+    printf("with 1 record: %s, rows %" PRIu64 "\n", refusal == TRACE_RECORDS_SHORT ? "refused 22" : "accepted", rows);
     return 0;
 }

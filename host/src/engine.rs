@@ -1,10 +1,14 @@
 //! The three operations over borrowed buffers: the only place that calls the static library.
 #![allow(unsafe_code)]
 
-use crate::{sys, Refusal};
+use crate::sys::{self, Record};
+use crate::Refusal;
 
 /// Scratch or a match list longer than this counts as this long, and the rest of it is untouched.
 pub const MAX_WORDS: usize = 1 << 30;
+
+/// The most operators that a plan may have: as many records serve every plan.
+pub const MAX_OPERATORS: usize = 31;
 
 /// Whether an extend reuses the vertices that it found for the row just before, where it may. The rows are the same, and the
 /// cost with it on is no higher; the extend needs as many words of scratch more as the longest set of vertices it found has.
@@ -74,10 +78,12 @@ pub fn check_plan(query: &[u8], plan: &[u8]) -> Result<usize, Refusal> {
     Ok(size(operators))
 }
 
-/// Runs a plan over a store: the rows are the list's first words, as many a row as the query has vertices, no two the same.
+/// Runs a plan over a store: the rows are the list's first words, as many a row as the query has vertices, no two the same. The
+/// first records are those of the plan's operators, in its order; there must be one for each.
 ///
-/// Any words may stand for a store: those that no graph file loads to are refused. Refused, the list is untouched; accepted,
-/// its words past the last row are. The scratch, up to [`MAX_WORDS`], is zero afterwards in both cases.
+/// Any words may stand for a store: those that no graph file loads to are refused. Refused, list and records are untouched;
+/// accepted, the words past the last row are, and the records past the last operator. The scratch, up to [`MAX_WORDS`], is zero
+/// afterwards in both cases.
 pub fn run(
     store: &[u32],
     query: &[u8],
@@ -85,9 +91,11 @@ pub fn run(
     cache: Cache,
     scratch: &mut [u32],
     list: &mut [u32],
+    records: &mut [Record],
 ) -> Result<Run, Refusal> {
     let (mut rows, mut cost, mut build, mut probe) = (0, 0, 0, 0);
-    // SAFETY: each pointer and length are those of one slice, and the numbers are locals. Scratch and list are borrowed alone.
+    // SAFETY: each pointer and length are those of one slice, and the numbers are locals. Scratch, list and records are borrowed
+    // alone.
     let number = unsafe {
         sys::trace_run(
             store.as_ptr(),
@@ -101,6 +109,8 @@ pub fn run(
             scratch.len(),
             list.as_mut_ptr(),
             list.len(),
+            records.as_mut_ptr(),
+            records.len(),
             &mut rows,
             &mut cost,
             &mut build,

@@ -22,13 +22,19 @@
 //! let matches = store.run_growing(&query, &plan, Cache::On, &mut buffers)?;
 //! assert_eq!(matches.rows().collect::<Vec<_>>(), [[0, 1, 2], [1, 2, 3]]);
 //! assert_eq!(matches.cost, 13);
+//!
+//! // Where the work went: the scan found 5 rows, and the extend did all the looking up.
+//! for work in matches.work() {
+//!     println!("{}: {} rows, cost {}", work.operator, work.rows, work.cost);
+//! }
 //! # Ok::<(), trace::Refusal>(())
 //! ```
 //!
 //! # Buffers
 //!
-//! A [`Store`] owns the words of a graph. A run needs scratch and a list for its rows. [`run`] and [`Store::run`] borrow both from
-//! the caller and refuse a run for which they are too short; [`Store::run_growing`] makes them larger until the run fits.
+//! A [`Store`] owns the words of a graph. A run needs scratch, a list for its rows, and a record for each operator. [`run`] and
+//! [`Store::run`] borrow them from the caller and refuse a run for which they are too short; [`Store::run_growing`] makes scratch and
+//! list larger until the run fits, and has records for the longest plan.
 //! The scratch is zero after every run, refused ones too.
 
 #![deny(unsafe_code)]
@@ -38,10 +44,13 @@
 compile_error!("the static library is for x86-64 Linux");
 
 mod engine;
+mod operator;
 mod refusal;
 mod store;
 pub mod sys;
 
-pub use engine::{check_plan, load_into, run, Cache, Loaded, Run, MAX_WORDS};
+pub use engine::{check_plan, load_into, run, Cache, Loaded, Run, MAX_OPERATORS, MAX_WORDS};
+pub use operator::{Operator, Work};
 pub use refusal::Refusal;
 pub use store::{Buffers, Matches, Store};
+pub use sys::Record;

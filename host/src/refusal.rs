@@ -47,10 +47,11 @@ refusals! {
     StoreDamaged = 19, "no accepted graph file loads to this store";
     ScratchSmall = 20, "the run needs more scratch";
     ListSmall = 21, "the rows do not fit the match list";
+    RecordsShort = 22, "the list of records is shorter than the plan's operators";
 }
 
 impl Refusal {
-    /// Its number, 1 to 21.
+    /// Its number, 1 to 22.
     pub fn number(self) -> u32 {
         self as u32
     }
@@ -74,11 +75,11 @@ mod tests {
     use super::Refusal;
 
     #[test]
-    fn numbers_are_1_to_21_in_order() {
+    fn numbers_are_1_to_22_in_order() {
         let numbers: Vec<u32> = Refusal::ALL.iter().map(|r| r.number()).collect();
-        assert_eq!(numbers, (1..=21).collect::<Vec<_>>());
+        assert_eq!(numbers, (1..=22).collect::<Vec<_>>());
         assert_eq!(Refusal::from_number(20), Some(Refusal::ScratchSmall));
         assert_eq!(Refusal::from_number(0), None);
-        assert_eq!(Refusal::from_number(22), None);
+        assert_eq!(Refusal::from_number(23), None);
     }
 }

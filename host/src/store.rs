@@ -1,5 +1,6 @@
 //! A store that owns its words, and buffers that grow.
-use crate::{load_into, run, Cache, Refusal, Run, MAX_WORDS};
+use crate::operator::Operators;
+use crate::{load_into, run, Cache, Record, Refusal, Run, Work, MAX_OPERATORS, MAX_WORDS};
 
 /// A loaded graph: the words that the engine reads.
 #[derive(Clone, Debug, PartialEq, Eq)]
@@ -54,17 +55,18 @@ impl Store {
         self.words.get(1).map_or(0, |&m| m as usize)
     }
 
-    /// Runs a plan in scratch and list of the caller's, whose lengths decide whether it is refused.
+    /// Runs a plan in scratch, list and records of the caller's, whose lengths decide whether it is refused.
     pub fn run<'l>(
         &self,
         query: &[u8],
-        plan: &[u8],
+        plan: &'l [u8],
         cache: Cache,
         scratch: &mut [u32],
         list: &'l mut [u32],
+        records: &'l mut [Record],
     ) -> Result<Matches<'l>, Refusal> {
-        let answer = run(&self.words, query, plan, cache, scratch, list)?;
-        Ok(Matches::new(query, answer, list))
+        let answer = run(&self.words, query, plan, cache, scratch, list, records)?;
+        Ok(Matches::new(query, plan, answer, list, records))
     }
 
     /// Runs a plan in buffers that grow until it fits, up to [`MAX_WORDS`] words each. A run that is refused for want of room is
@@ -72,19 +74,19 @@ impl Store {
     pub fn run_growing<'b>(
         &self,
         query: &[u8],
-        plan: &[u8],
+        plan: &'b [u8],
         cache: Cache,
         buffers: &'b mut Buffers,
     ) -> Result<Matches<'b>, Refusal> {
         let answer = loop {
-            let Buffers { scratch, list } = &mut *buffers;
-            match run(&self.words, query, plan, cache, scratch, list) {
+            let Buffers { scratch, list, records } = &mut *buffers;
+            match run(&self.words, query, plan, cache, scratch, list, records) {
                 Err(Refusal::ScratchSmall) if scratch.len() < MAX_WORDS => grow(scratch),
                 Err(Refusal::ListSmall) if list.len() < MAX_WORDS => grow(list),
                 answer => break answer?,
             }
         };
-        Ok(Matches::new(query, answer, &buffers.list))
+        Ok(Matches::new(query, plan, answer, &buffers.list, &buffers.records))
     }
 }
 
@@ -93,11 +95,12 @@ fn grow(buffer: &mut Vec<u32>) {
     buffer.resize(words, 0);
 }
 
-/// Scratch and list for runs, grown as they ask for it.
+/// Scratch and list for runs, grown as they ask for it, and records for the longest plan.
 #[derive(Clone, Debug, Default)]
 pub struct Buffers {
     scratch: Vec<u32>,
     list: Vec<u32>,
+    records: [Record; MAX_OPERATORS],
 }
 
 impl Buffers {
@@ -108,15 +111,17 @@ impl Buffers {
 
     /// Buffers of so many words of scratch and of list to begin with.
     pub fn with_words(scratch: usize, list: usize) -> Buffers {
-        Buffers { scratch: vec![0; scratch], list: vec![0; list] }
+        Buffers { scratch: vec![0; scratch], list: vec![0; list], ..Buffers::default() }
     }
 }
 
-/// The matches of an accepted run: rows of the borrowed list.
+/// The matches of an accepted run: rows of the borrowed list. Beside them stands what each operator did.
 #[derive(Clone, Copy, Debug, PartialEq, Eq)]
 pub struct Matches<'l> {
     words: &'l [u32],
     width: usize,
+    plan: &'l [u8],
+    records: &'l [Record],
     /// The lengths of the neighbour lists that the extends intersected, together.
     pub cost: u64,
     /// Build rows over all joins.
@@ -126,11 +131,16 @@ pub struct Matches<'l> {
 }
 
 impl<'l> Matches<'l> {
-    /// Of an accepted run of a query, whose file begins with its number of vertices in 4 bits.
-    fn new(query: &[u8], answer: Run, list: &'l [u32]) -> Matches<'l> {
+    /// Of an accepted run of a query, whose file begins with its number of vertices in 4 bits, and of a plan.
+    fn new(query: &[u8], plan: &'l [u8], answer: Run, list: &'l [u32], records: &'l [Record]) -> Matches<'l> {
         let width = usize::from(query[0] >> 4);
         let Run { rows, cost, build, probe } = answer;
-        Matches { words: &list[..rows * width], width, cost, build, probe }
+        Matches { words: &list[..rows * width], width, plan, records, cost, build, probe }
+    }
+
+    /// What each operator did, in the plan's order. The costs add up to the run's, and the last operator's rows are the matches.
+    pub fn work(&self) -> impl Iterator<Item = Work> + 'l {
+        Operators::of(self.plan).zip(self.records).map(|(operator, &record)| Work::new(operator, record))
     }
 
     /// How many matches there are.

@@ -2,12 +2,22 @@
 //!
 //! Nothing checks these lines against the Rattle source but the tests. Callers want the safe functions of the crate's root.
 
+/// What a run records of one operator. It is laid out as `struct trace_record` of `trace.h`.
+#[repr(C)]
+#[derive(Clone, Copy, Debug, Default, PartialEq, Eq)]
+pub struct Record {
+    /// The rows of its result.
+    pub rows: u64,
+    /// What it added to the run's cost: nothing but an extend does.
+    pub cost: u64,
+}
+
 extern "C" {
     /// Load. See `trace.h`.
     ///
     /// # Safety
-    /// Each pointer is aligned, not null, and points to as many bytes or words as the length after it says, a pointer with no
-    /// length to one number. What is written overlaps nothing else that is passed.
+    /// Each pointer is aligned, not null, and points to as many bytes, words or records as the length after it says, a pointer
+    /// with no length to one number. What is written overlaps nothing else that is passed.
     pub fn trace_load(
         file: *const u8,
         file_len: usize,
@@ -45,6 +55,8 @@ extern "C" {
         scratch_len: usize,
         list: *mut u32,
         list_len: usize,
+        records: *mut Record,
+        records_len: usize,
         rows: *mut u64,
         cost: *mut u64,
         build: *mut u64,

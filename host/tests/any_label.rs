@@ -134,7 +134,10 @@ fn compare(seeds: std::ops::Range<u64>, twins: impl Fn(Graph, Query) -> [(Graph,
         rows += one.rows;
         dearer += usize::from(two.cost > one.cost);
         let cost = one.cost;
-        assert_eq!(two, Ran { cost: two.cost, ..one }, "{other_graph:?} {other_query:?} {other_plan:?}");
+        let pairs = || one.records.iter().zip(&two.records);
+        assert!(pairs().all(|(a, b)| a.cost <= b.cost), "{other_graph:?} {other_query:?} {other_plan:?}");
+        let records = pairs().map(|(a, b)| trace::Record { cost: b.cost, ..*a }).collect();
+        assert_eq!(two, Ran { cost: two.cost, records, ..one }, "{other_graph:?} {other_query:?} {other_plan:?}");
         assert!(two.cost >= cost, "{other_graph:?} {other_query:?} {other_plan:?}: {} and {cost}", two.cost);
     });
     (rows, dearer)

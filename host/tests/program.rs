@@ -354,8 +354,9 @@ fn of_run() -> Vec<Refused> {
     [scan(1_025), extend(1, 512, 0), extend(4, 510, 1), join(253, 511)].into_iter().map(|files| (20, files)).collect()
 }
 
-/// Each refusal that the program can give. Not 19, since Run gets the store that Load wrote; nor 21, since the need counts the
-/// rows of the last result and the list is as long as the scratch: rows that do not fit it are refused with 20.
+/// Each refusal that the program can give. Not 19, since Run gets the store that Load wrote; nor 22, since it lends 31 records;
+/// nor 21, since the need counts the rows of the last result and the list is as long as the scratch: rows that do not fit it are
+/// refused with 20.
 #[test]
 fn every_refusal() {
     let mut seen = BTreeSet::new();

@@ -30,21 +30,28 @@ impl Case {
 
     /// The same from scratch and list of these lengths: refused just where they are too short.
     fn compare(&self, r: &Random, scratch: usize, list: usize) -> u32 {
+        let more = r.below(4);
+        self.compare_recording(r, scratch, list, self.want.records.len() + more)
+    }
+
+    /// The same with so many records.
+    fn compare_recording(&self, r: &Random, scratch: usize, list: usize, records: usize) -> u32 {
         let extra = r.below(4);
         let store = [self.graph.store(), r.words(extra)].concat();
         let input = Input { store: &store, query: &self.query.file(), plan: &self.plan, cache: self.cache };
         let refusal = match () {
+            _ if records < self.want.records.len() => 22,
             _ if scratch < self.want.need => 20,
             _ if list < self.want.rows.len() => 21,
             _ => 0,
         };
-        let got = calls::run(r, &input, scratch, list);
+        let got = calls::run_recording(r, &input, scratch, list, records);
         let want = match refusal {
             0 => {
-                let rules::Answer { rows, count, cost, build, probe, .. } = self.want.clone();
-                Ran { refusal, rows: count as u64, cost, build, probe, list: rows }
+                let rules::Answer { rows, count, cost, build, probe, records, .. } = self.want.clone();
+                Ran { refusal, rows: count as u64, cost, build, probe, list: rows, records }
             }
-            _ => Ran { refusal, rows: 0, cost: 0, build: 0, probe: 0, list: Vec::new() },
+            _ => Ran { refusal, rows: 0, cost: 0, build: 0, probe: 0, list: Vec::new(), records: Vec::new() },
         };
         assert_eq!(got, want, "{:?} {:?} {:?}", self.graph, self.query, self.plan);
         refusal
@@ -60,6 +67,8 @@ impl Case {
         self.compare(r, need + more, rows + most);
         let (scratch, list) = (r.below(need + 2), r.below(rows + 2));
         self.compare(r, scratch, list);
+        let records = r.below(self.want.records.len() + 2);
+        self.compare_recording(r, scratch, list, records);
     }
 }
 
@@ -143,10 +152,27 @@ fn every_length() {
     assert!(seen[0] > 1_000 && seen[20] > 1_000 && seen[21] > 1_000, "{seen:?}");
 }
 
-/// Damaged queries and plans are refused as Check plan refuses them, before the store is looked at.
+/// Every number of records from none to that of the operators and beyond, in any scratch and list.
+#[test]
+fn every_number_of_records() {
+    let mut seen = [0; 23];
+    each(0..400, |r| {
+        let graph = Graph::random(r, 6);
+        let Some(case) = Case::random(r, graph, 5, 40) else { return };
+        for records in 0..case.want.records.len() + 4 {
+            let (scratch, list) = (case.want.need, case.want.rows.len());
+            seen[case.compare_recording(r, scratch, list, records) as usize] += 1;
+            let (scratch, list) = (r.below(scratch + 2), r.below(list + 2));
+            seen[case.compare_recording(r, scratch, list, records) as usize] += 1;
+        }
+    });
+    assert!(seen[0] > 1_000 && seen[22] > 1_000, "{seen:?}");
+}
+
+/// Damaged queries and plans are refused as Check plan refuses them, before the records are counted and the store is looked at.
 #[test]
 fn refused_files() {
-    let mut seen = [0; 22];
+    let mut seen = [0; 23];
     each(0..10_000, |r| {
         let query = Query::random(r, 6);
         let mut operators = plan::random(r, &query);
@@ -160,18 +186,21 @@ fn refused_files() {
         if r.chance(1, 3) {
             r.damage(&mut plan);
         }
+        let records = r.below(12);
         let refusal = match Query::read(&query).and_then(|query| plan::read(&query, &plan)) {
             Err(refusal) => refusal,
+            Ok(operators) if records < operators.len() => 22,
             Ok(_) => 19,
         };
         let count = r.below(40);
         let store = r.words(count);
         let (scratch, list) = (r.below(30), r.below(30));
-        let got = calls::run(r, &Input { store: &store, query: &query, plan: &plan, cache: true }, scratch, list);
+        let input = Input { store: &store, query: &query, plan: &plan, cache: true };
+        let got = calls::run_recording(r, &input, scratch, list, records);
         assert_eq!(got.refusal, refusal);
         seen[refusal as usize] += 1;
     });
-    assert!((6..20).filter(|&k| seen[k] > 0).count() >= 12, "{seen:?}");
+    assert!((6..20).filter(|&k| seen[k] > 0).count() >= 12 && seen[22] > 500, "{seen:?}");
 }
 
 /// Scratch and list past 1,073,741,824 words are left alone. Takes 5 GB: run with `--ignored`.
@@ -186,7 +215,9 @@ fn lengths_past_the_counted_one() {
     scratch[5] = 7;
     scratch[trace::MAX_WORDS..].fill(9);
     list[6..12].fill(8);
-    let answer = trace::run(&graph.store(), &query.file(), &plan, trace::Cache::On, &mut scratch, &mut list).unwrap();
+    let records = &mut [trace::Record::default(); 2];
+    let answer =
+        trace::run(&graph.store(), &query.file(), &plan, trace::Cache::On, &mut scratch, &mut list, records).unwrap();
     assert_eq!((answer.rows, answer.cost), (2, 13));
     assert!(scratch[..trace::MAX_WORDS].iter().all(|&word| word == 0));
     assert!(scratch[trace::MAX_WORDS..].iter().all(|&word| word == 9));

@@ -5,7 +5,7 @@ use judge::graph::Graph;
 use judge::plan::{self, Operator};
 use judge::query::Query;
 use judge::worked::{diamond, doubled, g, graph, k, triangle};
-use trace::{Buffers, Cache, Refusal, Store};
+use trace::{Buffers, Cache, Record, Refusal, Store, Work};
 use Operator::{Extend, Join, Scan};
 
 /// Rows, cost, build rows, probe rows.
@@ -14,7 +14,8 @@ type Answer = (Vec<Vec<u32>>, u64, u64, u64);
 fn run(graph: &Graph, query: &Query, operators: &[Operator], cache: Cache) -> Answer {
     let store = Store::load(&graph.file()).unwrap();
     let mut buffers = Buffers::new();
-    let m = store.run_growing(&query.file(), &plan::file(operators), cache, &mut buffers).unwrap();
+    let plan = plan::file(operators);
+    let m = store.run_growing(&query.file(), &plan, cache, &mut buffers).unwrap();
     (m.rows().map(<[u32]>::to_vec).collect(), m.cost, m.build, m.probe)
 }
 
@@ -63,17 +64,21 @@ fn any_label() {
 fn the_worked_lengths() {
     let (store, query) = (Store::load(&g().file()).unwrap(), triangle().file());
     let plan = plan::file(&[Scan(0), Extend(2)]);
-    let run = |cache, scratch: usize, list: usize| {
-        store.run(&query, &plan, cache, &mut vec![1; scratch], &mut vec![1; list]).map(|m| m.len())
+    let run = |cache, scratch: usize, list: usize, records: usize| {
+        let (scratch, list, records) = (&mut vec![1; scratch], &mut vec![1; list], &mut vec![MARK; records]);
+        store.run(&query, &plan, cache, scratch, list, records).map(|m| m.len())
     };
     for (cache, need) in [(Cache::Off, 16), (Cache::On, 17)] {
-        assert_eq!(run(cache, need, 6), Ok(2));
-        assert_eq!(run(cache, need - 1, 6), Err(Refusal::ScratchSmall));
-        assert_eq!(run(cache, need, 5), Err(Refusal::ListSmall));
+        assert_eq!(run(cache, need, 6, 2), Ok(2));
+        assert_eq!(run(cache, need - 1, 6, 2), Err(Refusal::ScratchSmall));
+        assert_eq!(run(cache, need, 5, 2), Err(Refusal::ListSmall));
+        assert_eq!(run(cache, need - 1, 5, 1), Err(Refusal::RecordsShort));
     }
     let bushy = plan::file(&[Scan(2), Extend(0), Scan(2), Extend(3), Join]);
     let run = |cache, scratch: usize| {
-        store.run(&diamond().file(), &bushy, cache, &mut vec![1; scratch], &mut [1; 4]).map(|m| m.len())
+        store
+            .run(&diamond().file(), &bushy, cache, &mut vec![1; scratch], &mut [1; 4], &mut [MARK; 5])
+            .map(|m| m.len())
     };
     for (cache, need) in [(Cache::Off, 22), (Cache::On, 23)] {
         assert_eq!(run(cache, need), Ok(1));
@@ -83,6 +88,47 @@ fn the_worked_lengths() {
     assert_eq!(trace::load_into(&g().file(), &mut [0; 25]), Err(Refusal::StoreSmall));
     assert_eq!(trace::check_plan(&query, &plan), Ok(2));
     assert_eq!(trace::check_plan(&query, &plan[..2]), Err(Refusal::PlanShort));
+}
+
+const MARK: Record = Record { rows: 7, cost: 9 };
+
+/// The records of the worked cases, each with its operator.
+#[test]
+fn the_work_of_each_operator() {
+    let store = Store::load(&g().file()).unwrap();
+    let bushy = plan::file(&[Scan(2), Extend(0), Scan(2), Extend(3), Join]);
+    let mut records = [MARK; 7];
+    let (query, scratch, list) = (diamond().file(), &mut [0; 22], &mut [0; 4]);
+    let matches = store.run(&query, &bushy, Cache::Off, scratch, list, &mut records).unwrap();
+    let (scan, extend) = (trace::Operator::Scan, trace::Operator::Extend);
+    let want =
+        [(scan(2), 5, 0), (extend(0), 2, 13), (scan(2), 5, 0), (extend(3), 2, 13), (trace::Operator::Join, 1, 0)];
+    let work = |(operator, rows, cost)| Work { operator, rows, cost };
+    assert!(matches.work().eq(want.map(work)));
+    assert_eq!(matches.work().map(|work| work.cost).sum::<u64>(), matches.cost);
+    assert_eq!(records[5..], [MARK; 2]);
+
+    let plan = plan::file(&[Scan(2), Extend(0), Extend(3)]);
+    let store = Store::load(&k().file()).unwrap();
+    let mut buffers = Buffers::new();
+    let mut costs = |cache| -> Vec<(u64, u64)> {
+        let matches = store.run_growing(&query, &plan, cache, &mut buffers).unwrap();
+        matches.work().map(|work| (work.rows, work.cost)).collect()
+    };
+    assert_eq!(costs(Cache::Off), [(7, 0), (3, 24), (2, 7)]);
+    assert_eq!(costs(Cache::On), [(7, 0), (3, 24), (2, 4)]);
+}
+
+/// A record is laid out as `struct trace_record` is in C, two numbers of 8 bytes, the rows first. That the library reads it so, every
+/// test of a run shows; `c/triangles.c` holds the header to the same.
+#[test]
+fn the_layout_of_a_record() {
+    assert_eq!((size_of::<Record>(), align_of::<Record>()), (16, 8));
+    assert_eq!((std::mem::offset_of!(Record, rows), std::mem::offset_of!(Record, cost)), (0, 8));
+    let mut records = [MARK; 3];
+    let (store, query, plan) = (g().store(), triangle().file(), plan::file(&[Scan(0), Extend(2)]));
+    trace::run(&store, &query, &plan, Cache::On, &mut [0; 17], &mut [0; 6], &mut records).unwrap();
+    assert_eq!(records, [Record { rows: 5, cost: 0 }, Record { rows: 2, cost: 13 }, MARK]);
 }
 
 #[test]
@@ -119,10 +165,10 @@ fn buffers_grow() {
     let n = 200;
     let pairs: Vec<(u16, u16)> = (0..n).flat_map(|a| (0..n).map(move |b| (a, b))).collect();
     let store = Store::load(&graph(n.into(), &pairs).file()).unwrap();
-    let query = Query::plain(2, &[(0, 1)]).file();
+    let (query, plan) = (Query::plain(2, &[(0, 1)]).file(), plan::file(&[Scan(0)]));
     let mut buffers = Buffers::new();
     for _ in 0..2 {
-        let matches = store.run_growing(&query, &plan::file(&[Scan(0)]), Cache::Off, &mut buffers).unwrap();
+        let matches = store.run_growing(&query, &plan, Cache::Off, &mut buffers).unwrap();
         assert_eq!((matches.len(), matches.width(), matches.is_empty()), (39_800, 2, false));
         assert_eq!(matches.words().len(), 79_600);
         assert_eq!(matches.rows().next_back(), Some(&[199, 198][..]));

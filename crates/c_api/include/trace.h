@@ -4,9 +4,9 @@
  * No input is a fault: any bytes and words, and any lengths, are answered. What is proved of each function is its contract in
  * crates/c_api/src/lib.rt; what the caller owes, and no proof can see, is what its pointers are:
  *
- *  - a pointer with a length points to that many bytes or words, which may be read, and written where it is not const;
+ *  - a pointer with a length points to that many bytes, words or records, which may be read, and written where it is not const;
  *  - no pointer is null, also where the length is 0, and each is aligned as its type asks;
- *  - what is written (store, scratch, list, the single numbers) overlaps nothing else that is passed;
+ *  - what is written (store, scratch, list, records, the single numbers) overlaps nothing else that is passed;
  *  - a bool is true or false.
  *
  * Nothing is kept between calls, and no function allocates, waits or prints: calls on different buffers may run at once, and
@@ -54,8 +54,18 @@ enum trace_refusal {
     TRACE_PLAN_UNCOVERED = 18,      /* the plan leaves a query vertex uncovered */
     TRACE_STORE_DAMAGED = 19,       /* no accepted graph file loads to this store */
     TRACE_SCRATCH_SMALL = 20,       /* the run needs more scratch */
-    TRACE_LIST_SMALL = 21           /* the rows do not fit the match list */
+    TRACE_LIST_SMALL = 21,          /* the rows do not fit the match list */
+    TRACE_RECORDS_SHORT = 22        /* the list of records is shorter than the plan's operators */
 };
+
+/* What a run records of one operator: the rows of its result, and its cost. Scans and joins cost 0. */
+struct trace_record {
+    uint64_t rows;
+    uint64_t cost;
+};
+
+/* As many records serve every plan. */
+#define TRACE_MAX_OPERATORS 31
 
 /* Loads a graph file into a store of 3 N + 2 M + 4 words or more, and gives N and M. Refusals 1 to 5.
  * Refused, the store is untouched; loaded, the words past the used ones are. */
@@ -69,19 +79,22 @@ uint32_t trace_check_plan(const uint8_t *query, size_t query_len,
                           uint64_t *operators);
 
 /* Runs a plan over a store, and gives the number of rows, the cost, and the sums of build rows and probe rows over all joins.
- * Refusals 6 to 21.
+ * Refusals 6 to 22: 22 comes after those of the plan and before 19.
  *
  * A row is n words, the data vertices of query vertices 0 to n - 1, no two the same; the rows are the matches of the query, each
  * once, from the list's first word on. Refused, the list is untouched; accepted, its words past the last row are. The scratch is
  * zero afterwards, whatever the answer. Scratch or list longer than 1,073,741,824 words counts as that long, and the rest is
- * untouched. With the cache on, an extend reuses the vertices found for the row just before where it may: the rows are the
- * same, the cost is no higher, and it needs as many words of scratch more as the longest set of vertices it found has. */
+ * untouched. The first records are those of the plan's operators, in its order; their costs add up to the cost, and the last one's
+ * rows are the rows. Refused, the records are untouched; accepted, those past the last operator are. With the cache on, an extend
+ * reuses the vertices found for the row just before where it may: the rows are the same, the cost is no higher, and it needs as many
+ * words of scratch more as the longest set of vertices it found has. */
 uint32_t trace_run(const uint32_t *store, size_t store_len,
                    const uint8_t *query, size_t query_len,
                    const uint8_t *plan, size_t plan_len,
                    bool cache,
                    uint32_t *scratch, size_t scratch_len,
                    uint32_t *list, size_t list_len,
+                   struct trace_record *records, size_t records_len,
                    uint64_t *rows, uint64_t *cost, uint64_t *build, uint64_t *probe);
 
 #ifdef __cplusplus

@@ -1,4 +1,5 @@
 // The runs of a plan, against the matcher and against each other.
+use crate::records;
 use crate::runs;
 use crate::runs::Files;
 use crate::runs::LIST_WORDS;
@@ -77,6 +78,24 @@ fn judge_list(
     }
 }
 
+// As many records as the plan has operators serve as well; one fewer gives 22, also where the list is too short.
+fn judge_records(
+    store: &Store,
+    files: &Files,
+    with: Lent,
+    a: RunAnswer,
+    first: &List,
+    tally: &mut Tally,
+) {
+    let mut w = with;
+    w.records = records::operators(files);
+    judge_again(store, files, w, a, first, 0, tally::RECORDS, tally);
+    w.records = sub(w.records, 1);
+    w.list = with.list / 2;
+    let refusal = judge_again(store, files, w, a, first, 22, tally::RECORDS, tally);
+    tally::judge(tally, tally::RECORDS, refusal == 22);
+}
+
 // All runs of the last of so many plans of a query; answers whether they were judged, and not too large for the scratch. The first
 // run is with the cache off, which may fit where one with it on does not.
 pub fn judge_plan(
@@ -106,6 +125,7 @@ pub fn judge_plan(
     w.cache = plans == 1;
     w.list = runs::row_words(a.rows, with.width);
     judge_list(store, files, w, a, &first, tally);
+    judge_records(store, files, w, a, &first, tally);
     judge_scratch(store, files, w, a, &first, tally);
     true
 }

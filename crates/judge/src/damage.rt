@@ -27,7 +27,7 @@ fn refusal_of(store: &Store, files: &Files, with: Lent, tally: &mut Tally) -> u3
     let a = runs::run(store, files, with, &mut list, tally);
     let read = follows(0, q.refusal, 6, 11);
     let checked = follows(q.refusal, c.refusal, 12, 18);
-    let ran = follows(c.refusal, a.refusal, 19, 21);
+    let ran = follows(c.refusal, a.refusal, 19, 22);
     let no_query = (q.query.vertices == 0) & (q.query.edges == 0);
     let zeros = ((q.refusal == 0) | no_query) & ((c.refusal == 0) | (c.operators == 0));
     tally::judge(tally, DAMAGED, read & checked & ran);

@@ -3,6 +3,7 @@
 mod compare;
 mod damage;
 mod matcher;
+mod records;
 mod runs;
 mod slices;
 mod stream;

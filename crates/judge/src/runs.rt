@@ -1,10 +1,12 @@
 // Load and Run over marked words, with what they leave there judged.
+use crate::records;
 use crate::slices::all_are;
 use crate::slices::least;
 use crate::slices::part;
 use crate::tally;
 use crate::tally::Tally;
 use judge_inputs::bits::add;
+use lending::Filled;
 use load::Loaded;
 use run::RunAnswer;
 
@@ -32,8 +34,8 @@ pub type List = [u32; LIST_WORDS];
 
 pub type Files = [u8; FILE_BYTES];
 
-// What a run is lent: the words of the store, the bytes of the two files, the cache setting, the words of scratch and list. A row
-// has `width` words.
+// What a run is lent: the words of the store, the bytes of the two files, the cache setting, the words of scratch and list, and the
+// records. A row has `width` words.
 pub struct Lent {
     pub store: usize,
     pub query: usize,
@@ -41,29 +43,25 @@ pub struct Lent {
     pub cache: bool,
     pub scratch: usize,
     pub list: usize,
+    pub records: usize,
     pub width: usize,
 }
 
 // The one call of Run.
-fn lend(
-    store: &[u32],
-    files: &[u8],
-    with: Lent,
-    scratch: &mut [u32],
-    list: &mut [u32],
-) -> RunAnswer {
+fn lend(store: &[u32], files: &[u8], with: Lent, scratch: &mut [u32], list: &mut [u32]) -> Filled {
     let used = least(with.store, store.len());
     let words = least(with.scratch, scratch.len());
     let room = least(with.list, list.len());
     let query = part(files, 0, with.query);
     let plan = part(files, PLAN, with.plan);
-    run::run(
+    lending::run_lending(
         &store[0..used],
         query,
         plan,
         with.cache,
         &mut scratch[0..words],
         &mut list[0..room],
+        records::marked(with.records),
     )
 }
 
@@ -86,8 +84,8 @@ fn judge_answer(a: RunAnswer, tally: &mut Tally) {
     tally::judge(tally, tally::REFUSED, (a.refusal == 0) | zeros);
 }
 
-// A run over marked words of scratch and list. It clears the scratch, and touches no word of the list past the last row, and none
-// past what it is lent.
+// A run over marked words of scratch and list and marked records. It clears the scratch, and touches no word of the list past the
+// last row, no record past the last operator, and nothing past what it is lent.
 pub fn run(
     store: &Store,
     files: &Files,
@@ -96,7 +94,9 @@ pub fn run(
     tally: &mut Tally,
 ) -> RunAnswer {
     let mut scratch = [MARK; MAX_SCRATCH + MARGIN];
-    let a = lend(store, files, with, &mut scratch, list);
+    let filled = lend(store, files, with, &mut scratch, list);
+    let a = filled.answer;
+    records::judge(filled, records::operators(files), tally);
     let rows = row_words(a.rows, with.width);
     let words = with.scratch;
     let untouched = is_marked(&scratch, words, words) & is_marked(list, rows, with.list);

@@ -28,6 +28,8 @@ pub const REFUSED: usize = 9;
 
 pub const DAMAGED: usize = 10;
 
+pub const RECORDS: usize = 11;
+
 // What the stream had.
 pub const GRAPHS: usize = 32;
 
@@ -90,8 +92,9 @@ fn print_rows(tally: &Tally) {
 fn print_words(tally: &Tally) {
     print_kind(b"scratch lengths around the need", tally, SCRATCH);
     print_kind(b"list of its rows and a word short", tally, LIST);
-    print_kind(b"words untouched", tally, UNTOUCHED);
+    print_kind(b"words and records untouched", tally, UNTOUCHED);
     print_kind(b"scratch cleared", tally, CLEARED);
+    print_kind(b"records that add up, and one short", tally, RECORDS);
     print_kind(b"refused with zeros", tally, REFUSED);
     print_kind(b"damaged files and stores", tally, DAMAGED);
 }
@@ -108,7 +111,7 @@ fn print_stream(tally: &Tally) {
 
 fn print_refusals(tally: &Tally) {
     io::write_all(STDOUT_FILENO, b"\nrefusals");
-    for k in 1..22 {
+    for k in 1..23 {
         print_count(b" ", k);
         print_count(b":", tally[REFUSALS + k as usize % 32]);
     }

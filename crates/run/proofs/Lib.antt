@@ -10,5 +10,6 @@ pub mod Operated
 pub mod Linked
 pub mod Insides
 pub mod Running
+pub mod Recording
 pub mod Ended
 pub mod Answers

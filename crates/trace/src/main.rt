@@ -1,7 +1,10 @@
 // trace: loads the graph file g.bin of the folder it runs in, runs the plan p.bin of the query q.bin over it with the cache on,
 // and prints the rows, or the refusal. It reads, calls and prints; what it prints is computed by `load` and `run`.
 ghost use Rattle.io.specs.Counts.{Counts};
+use execution::Record;
+use lending::Lending;
 use libc::STDOUT_FILENO;
+use plan::Plan;
 
 // The longest file that is taken, in bytes. A buffer holds one byte more, by which a longer file is known.
 const MAX_BYTES: usize = 8192;
@@ -105,11 +108,20 @@ fn print_matches(rows: usize, cost: u64, build: u64, probe: u64) {
     io::write_all(STDOUT_FILENO, b"\n");
 }
 
+// As many records as the longest plan has operators. They are not printed.
+fn records() -> Lending {
+    Lending {
+        records: [Record { rows: 0, cost: 0 }; Plan::MAX_OPERATORS],
+        lent: Plan::MAX_OPERATORS,
+    }
+}
+
 // Runs the plan over a loaded store.
 fn trace_store(store: &[u32], query: &[u8], plan: &[u8]) {
     let mut scratch = [0u32; SCRATCH_WORDS];
     let mut list = [0u32; LIST_WORDS];
-    let answer = run::run(store, query, plan, true, &mut scratch, &mut list);
+    let filled = lending::run_lending(store, query, plan, true, &mut scratch, &mut list, records());
+    let answer = filled.answer;
     if answer.refusal != 0 {
         print_refused(answer.refusal);
         return;

@@ -57,7 +57,8 @@ type Version = fn(&[u32], &[u8], &[u8], bool, &mut [u32], &mut [u32]) -> Answer;
 /// The engine's answer in the form of the plain versions.
 fn engine(store: &[u32], query: &[u8], plan: &[u8], cache: bool, scratch: &mut [u32], list: &mut [u32]) -> Answer {
     let cache = if cache { Cache::On } else { Cache::Off };
-    match trace::run(store, query, plan, cache, scratch, list) {
+    let mut records = [trace::Record::default(); trace::MAX_OPERATORS];
+    match trace::run(store, query, plan, cache, scratch, list, &mut records) {
         Ok(run) => Answer { refusal: 0, rows: run.rows, cost: run.cost, build: run.build, probe: run.probe },
         Err(refusal) => Answer::refused(refusal.number()),
     }

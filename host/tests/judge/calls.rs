@@ -2,6 +2,7 @@
 //! true of all: what is lent for reading and what is not lent stays as it was; refused, every number is 0.
 use super::random::Random;
 use trace::sys;
+use trace::Record;
 
 const GUARD: usize = 12;
 
@@ -128,16 +129,26 @@ pub struct Ran {
     pub probe: u64,
     /// The list's rows: n words for each; the words after them are as they were.
     pub list: Vec<u32>,
+    /// The records of the plan's operators; those after them are as they were.
+    pub records: Vec<Record>,
 }
 
-/// Run in scratch and list of these lengths, which hold arbitrary words. The scratch is zero afterwards.
+/// Run in scratch and list of these lengths, which hold arbitrary words, with records for every plan. The scratch is zero afterwards.
 pub fn run(r: &Random, input: &Input, scratch: usize, list: usize) -> Ran {
+    run_recording(r, input, scratch, list, trace::MAX_OPERATORS)
+}
+
+/// The same with so many records, which hold arbitrary numbers.
+pub fn run_recording(r: &Random, input: &Input, scratch: usize, list: usize, records: usize) -> Ran {
     let store = words(r, input.store);
     let (query, plan) = (bytes(r, input.query), bytes(r, input.plan));
     let contents = r.words(scratch);
     let mut scratch = words(r, &contents);
     let contents = r.words(list);
     let mut list = words(r, &contents);
+    let record = || Record { rows: r.next(), cost: r.next() };
+    let before: Vec<Record> = (0..records).map(|_| record()).collect();
+    let mut records = Lent::new(&before, record);
     let mut numbers = Numbers::<4>::new(r);
     let [rows, cost, build, probe] = numbers.pointers();
     // SAFETY: as above.
@@ -154,6 +165,8 @@ pub fn run(r: &Random, input: &Input, scratch: usize, list: usize) -> Ran {
             scratch.len(),
             list.pointer_mut(),
             list.len(),
+            records.pointer_mut(),
+            records.len(),
             rows,
             cost,
             build,
@@ -166,11 +179,19 @@ pub fn run(r: &Random, input: &Input, scratch: usize, list: usize) -> Ran {
     assert!(scratch.contents("scratch").iter().all(|&word| word == 0), "the scratch is not zero");
     if refusal != 0 {
         list.assert_untouched("list");
+        records.assert_untouched("list of records");
     }
     let mut after = list.contents("list");
     let [rows, cost, build, probe] = numbers.after(refusal);
     let end = rows as usize * usize::from(input.query.first().map_or(0, |byte| byte >> 4));
     assert_eq!(after[end..], contents[end..], "the list is changed past its last row");
     after.truncate(end);
-    Ran { refusal, rows, cost, build, probe, list: after }
+    let mut records = records.contents("records");
+    let operators = match refusal {
+        0 => usize::from(input.plan[0] >> 3),
+        _ => 0,
+    };
+    assert_eq!(records[operators..], before[operators..], "the records are changed past the last operator");
+    records.truncate(operators);
+    Ran { refusal, rows, cost, build, probe, list: after, records }
 }

@@ -33,6 +33,8 @@ impl Worked {
             build: self.build,
             probe: self.probe,
             need: self.need[usize::from(cache)],
+            // Not worked by hand: those of the rules in words.
+            records: in_words::run(&self.graph, &self.query, &self.plan, cache).records,
         }
     }
 
@@ -69,8 +71,8 @@ impl Worked {
 }
 
 fn accepted(answer: rules::Answer) -> Ran {
-    let rules::Answer { rows, count, cost, build, probe, .. } = answer;
-    Ran { refusal: 0, rows: count as u64, cost, build, probe, list: rows }
+    let rules::Answer { rows, count, cost, build, probe, records, .. } = answer;
+    Ran { refusal: 0, rows: count as u64, cost, build, probe, list: rows, records }
 }
 
 pub fn run(r: &Random, g: &Graph, q: &Query, p: &[Operator], cache: bool, scratch: usize, list: usize) -> Ran {

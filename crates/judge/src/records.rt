@@ -1,0 +1,87 @@
+// The records of a run: marked before, judged afterwards.
+use crate::runs;
+use crate::runs::Files;
+use crate::tally;
+use crate::tally::Tally;
+use execution::Record;
+use lending::Filled;
+use lending::Lending;
+use plan::Plan;
+use run::RunAnswer;
+
+pub const COUNT: usize = Plan::MAX_OPERATORS;
+
+const MARK: u64 = 16045690984503098046;
+
+// Marked records, of which so many are lent.
+pub fn marked(lent: usize) -> Lending {
+    Lending {
+        records: [Record {
+            rows: MARK,
+            cost: MARK,
+        }; COUNT],
+        lent,
+    }
+}
+
+fn wide(x: u8) -> usize {
+    x as usize
+}
+
+// The number of operators that the plan's file begins with, in 5 bits.
+pub fn operators(files: &Files) -> usize {
+    wide(files[runs::PLAN]) / 8
+}
+
+// The records from an index on are as before.
+fn are_marked(records: [Record; COUNT], from: usize) -> bool {
+    for i in 0..COUNT {
+        let r = records[i];
+        if from <= i {
+            if (r.rows != MARK) | (r.cost != MARK) {
+                return false;
+            }
+        }
+    }
+    true
+}
+
+// The sum of the costs of so many records.
+fn cost_of(records: [Record; COUNT], count: usize) -> u64 {
+    let mut sum = 0;
+    for i in 0..COUNT {
+        let r = records[i];
+        if i < count {
+            sum = std::num::wrapping_add_u64(sum, r.cost);
+        }
+    }
+    sum
+}
+
+// The rows of the last of so many records.
+fn last_rows(records: [Record; COUNT], count: usize) -> u64 {
+    let mut rows = 0;
+    for i in 0..COUNT {
+        let r = records[i];
+        if i < count {
+            rows = r.rows;
+        }
+    }
+    rows
+}
+
+// The costs add up to the answer's, and the last record's rows are the answer's.
+fn adds_up(records: [Record; COUNT], count: usize, a: RunAnswer) -> bool {
+    (cost_of(records, count) == a.cost) & (last_rows(records, count) == a.rows as u64)
+}
+
+// Of a run of a plan of so many operators: refused, no record is touched; accepted, none past the last operator, and they add up.
+pub fn judge(filled: Filled, count: usize, tally: &mut Tally) {
+    let a = filled.answer;
+    let records = filled.records;
+    let made = if a.refusal == 0 { count } else { 0 };
+    tally::judge(tally, tally::UNTOUCHED, are_marked(records, made));
+    if a.refusal == 0 {
+        tally::judge(tally, tally::RECORDS, adds_up(records, count, a));
+    }
+}

@@ -1,0 +1,2 @@
+-- What Run leaves in an array of records.
+pub mod Lending
