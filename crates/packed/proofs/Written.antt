@@ -60,42 +60,46 @@ written-none old bytes =
     (λ j l. own-byte old j (bytes j) ∙ number-ext (bitAt old) (bitWritten old []) (8 * j) (8 * j) 8 (λ t m. sym (written-after old [] (8 * j + t) (omega arith)))))
 
 -- One field more.
-pub written-more : (old bits : List ℕ) (w x : ℕ) → length bits + w ≤ 8 * length old
-    → putField (written old bits) (length bits) w x ≡ written old (bits ++ bitsOf w x)
-written-more old bits w x room =
-    put-shape ∙ bytesBy-ext (bitPut (written old bits) (length bits) w x) (bitWritten old (bits ++ bitsOf w x)) (length old) each
-    ∙ sym (written-shape old (bits ++ bitsOf w x))
-  where
-    put-shape : putField (written old bits) (length bits) w x ≡ bytesBy (bitPut (written old bits) (length bits) w x) (length old)
-    put-shape = put-by (written old bits) (length bits) w x ∙ ap (bytesBy (bitPut (written old bits) (length bits) w x)) (length-written old bits)
+module _ (old bits : List ℕ) (w x : ℕ) (room : length bits + w ≤ 8 * length old) where
+  more : putField (written old bits) (length bits) w x ≡ written old (bits ++ bitsOf w x)
+  more =
+      put-shape ∙ bytesBy-ext (bitPut (written old bits) (length bits) w x) (bitWritten old (bits ++ bitsOf w x)) (length old) each
+      ∙ sym (written-shape old (bits ++ bitsOf w x))
+    where
+      put-shape : putField (written old bits) (length bits) w x ≡ bytesBy (bitPut (written old bits) (length bits) w x) (length old)
+      put-shape = put-by (written old bits) (length bits) w x ∙ ap (bytesBy (bitPut (written old bits) (length bits) w x)) (length-written old bits)
 
-    long : length (bits ++ bitsOf w x) ≡ length bits + w
-    long = length-append bits (bitsOf w x) ∙ ap (λ (k : ℕ). length bits + k) (length-bitsOf w x)
+      long : length (bits ++ bitsOf w x) ≡ length bits + w
+      long = length-append bits (bitsOf w x) ∙ ap (λ (k : ℕ). length bits + k) (length-bitsOf w x)
 
-    inside : (j k : ℕ) → j + suc k ≡ w → bitPut (written old bits) (length bits) w x (length bits + j) ≡ bitWritten old (bits ++ bitsOf w x) (length bits + j)
-    inside j k e =
-        put-inside (written old bits) (length bits) w x j k e
-        ∙ sym (bit-bitsOf w x j k e)
-        ∙ sym (written-inside old (bits ++ bitsOf w x) (length bits + j) (rw long (omega arith)) ∙ ap (λ (n : ℕ). n % 2) (getD-append-add bits (bitsOf w x) j 0))
+      inside : (j k : ℕ) → j + suc k ≡ w → bitPut (written old bits) (length bits) w x (length bits + j) ≡ bitWritten old (bits ++ bitsOf w x) (length bits + j)
+      inside j k e =
+          put-inside (written old bits) (length bits) w x j k e
+          ∙ sym (bit-bitsOf w x j k e)
+          ∙ sym (written-inside old (bits ++ bitsOf w x) (length bits + j) (rw long (omega arith)) ∙ ap (λ (n : ℕ). n % 2) (getD-append-add bits (bitsOf w x) j 0))
 
-    each : (i : ℕ) → i < 8 * length old → bitPut (written old bits) (length bits) w x i ≡ bitWritten old (bits ++ bitsOf w x) i
-    each i l = go (ltb i (length bits)) refl (ltb i (length bits + w)) refl
-      where
-        go : (a : Bool) → ltb i (length bits) ≡ a → (b : Bool) → ltb i (length bits + w) ≡ b
-            → bitPut (written old bits) (length bits) w x i ≡ bitWritten old (bits ++ bitsOf w x) i
-        go true p b q =
-            let h : i < length bits = ltb-true i (length bits) p in
-            put-before (written old bits) (length bits) w x i h ∙ bit-written old bits i l ∙ written-inside old bits i h
-            ∙ sym (written-inside old (bits ++ bitsOf w x) i (rw long (omega arith)) ∙ ap (λ (n : ℕ). n % 2) (List·getD-append bits (bitsOf w x) 0 i h))
-        go false p true q =
-            let h : length bits ≤ i = ltb-false i (length bits) p in
-            let m : i < length bits + w = ltb-true i (length bits + w) q in
-            let from : length bits + (i - length bits) ≡ i = omega arith in
-            rw from at (inside (i - length bits) (w - suc (i - length bits)) (omega arith))
-        go false p false q =
-            let h : length bits + w ≤ i = ltb-false i (length bits + w) q in
-            put-after (written old bits) (length bits) w x i h ∙ bit-written old bits i l ∙ written-after old bits i (omega arith)
-            ∙ sym (written-after old (bits ++ bitsOf w x) i (rw long h))
+      each : (i : ℕ) → i < 8 * length old → bitPut (written old bits) (length bits) w x i ≡ bitWritten old (bits ++ bitsOf w x) i
+      each i l = go (ltb i (length bits)) refl (ltb i (length bits + w)) refl
+        where
+          go : (a : Bool) → ltb i (length bits) ≡ a → (b : Bool) → ltb i (length bits + w) ≡ b
+              → bitPut (written old bits) (length bits) w x i ≡ bitWritten old (bits ++ bitsOf w x) i
+          go true p b q =
+              let h : i < length bits = ltb-true i (length bits) p in
+              put-before (written old bits) (length bits) w x i h ∙ bit-written old bits i l ∙ written-inside old bits i h
+              ∙ sym (written-inside old (bits ++ bitsOf w x) i (rw long (omega arith)) ∙ ap (λ (n : ℕ). n % 2) (List·getD-append bits (bitsOf w x) 0 i h))
+          go false p true q =
+              let h : length bits ≤ i = ltb-false i (length bits) p in
+              let m : i < length bits + w = ltb-true i (length bits + w) q in
+              let from : length bits + (i - length bits) ≡ i = omega arith in
+              rw from at (inside (i - length bits) (w - suc (i - length bits)) (omega arith))
+          go false p false q =
+              let h : length bits + w ≤ i = ltb-false i (length bits + w) q in
+              put-after (written old bits) (length bits) w x i h ∙ bit-written old bits i l ∙ written-after old bits i (omega arith)
+              ∙ sym (written-after old (bits ++ bitsOf w x) i (rw long h))
+
+  -- The same of a file that holds the bits so far.
+  pub written-more : (s : List ℕ) (at : ℕ) → s ≡ written old bits → at ≡ length bits → putField s at w x ≡ written old (bits ++ bitsOf w x)
+  written-more s at e l = rw (e, l) more
 
 -- ---- the bytes
 
