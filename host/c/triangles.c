@@ -1,4 +1,4 @@
-/* Loads a graph of four vertices, lists its triangles, and shows a refusal. */
+/* Loads a graph of four vertices, lists its triangles, draws a plan for them, and shows a refusal. */
 #include <inttypes.h>
 #include <stdio.h>
 
@@ -37,5 +37,13 @@ int main(void)
     refusal = trace_run(store, 26, query, sizeof query, plan, sizeof plan, true, scratch, 15, list, 6,
                         &rows, &cost, &build, &probe);
     printf("with 15 words of scratch: %s, rows %" PRIu64 "\n", refusal == TRACE_SCRATCH_SMALL ? "refused 20" : "accepted", rows);
+
+    uint8_t drawn[6];
+    uint64_t bytes;
+    refusal = trace_draw_plan(store, 26, query, sizeof query, drawn, sizeof drawn, &bytes);
+    printf("drawn: refusal %" PRIu32 ", %" PRIu64 " bytes:", refusal, bytes);
+    for (uint64_t i = 0; i < bytes; i++)
+        printf(" %02x", (unsigned)drawn[i]);
+    printf("\n");
     return 0;
 }

@@ -1,10 +1,13 @@
-//! The three operations over borrowed buffers: the only place that calls the static library.
+//! The operations over borrowed buffers: the only place that calls the static library.
 #![allow(unsafe_code)]
 
 use crate::{sys, Refusal};
 
 /// Scratch or a match list longer than this counts as this long, and the rest of it is untouched.
 pub const MAX_WORDS: usize = 1 << 30;
+
+/// A drawn plan has no more bytes than this.
+pub const MAX_DRAWN_BYTES: usize = 6;
 
 /// Whether an extend reuses the vertices that it found for the row just before, where it may. The rows are the same, and the
 /// cost with it on is no higher.
@@ -72,6 +75,28 @@ pub fn check_plan(query: &[u8], plan: &[u8]) -> Result<usize, Refusal> {
         unsafe { sys::trace_check_plan(query.as_ptr(), query.len(), plan.as_ptr(), plan.len(), &mut operators) };
     accepted(number)?;
     Ok(size(operators))
+}
+
+/// Draws a plan for a query over a store, of one scan and extends, into bytes that the caller lends: [`MAX_DRAWN_BYTES`] are always
+/// enough. Answers how many bytes the plan has; they are the first ones, and [`check_plan`] accepts them.
+///
+/// Refused, the bytes are untouched; drawn, those past the plan are.
+pub fn draw_plan_into(store: &[u32], query: &[u8], plan: &mut [u8]) -> Result<usize, Refusal> {
+    let mut bytes = 0;
+    // SAFETY: each pointer and length are those of one slice, and the number is a local. The plan is borrowed alone.
+    let number = unsafe {
+        sys::trace_draw_plan(
+            store.as_ptr(),
+            store.len(),
+            query.as_ptr(),
+            query.len(),
+            plan.as_mut_ptr(),
+            plan.len(),
+            &mut bytes,
+        )
+    };
+    accepted(number)?;
+    Ok(size(bytes))
 }
 
 /// Runs a plan over a store: the rows are the list's first words, as many a row as the query has vertices.

@@ -1,4 +1,4 @@
-//! Subgraph matching by a proved engine: load a packed graph, check a plan, run it.
+//! Subgraph matching by a proved engine: load a packed graph, check a plan or draw one, run it.
 //!
 //! The engine is written in Rattle and proved to meet its contracts: after an accepted run the list holds every match of the
 //! query once, and nothing else. This crate is a thin, safe wrapper of its static library. It is not proved: all that it does
@@ -21,6 +21,10 @@
 //! let matches = store.run_growing(&query, &plan, Cache::On, &mut buffers)?;
 //! assert_eq!(matches.rows().collect::<Vec<_>>(), [[0, 1, 2], [1, 2, 3]]);
 //! assert_eq!(matches.cost, 13);
+//!
+//! // Without a plan: one is drawn, here the same.
+//! assert_eq!(store.draw_plan(&query)?, plan);
+//! assert_eq!(store.run_drawn(&query, Cache::On, &mut buffers)?.len(), 2);
 //! # Ok::<(), trace::Refusal>(())
 //! ```
 //!
@@ -41,6 +45,6 @@ mod refusal;
 mod store;
 pub mod sys;
 
-pub use engine::{check_plan, load_into, run, Cache, Loaded, Run, MAX_WORDS};
+pub use engine::{check_plan, draw_plan_into, load_into, run, Cache, Loaded, Run, MAX_DRAWN_BYTES, MAX_WORDS};
 pub use refusal::Refusal;
 pub use store::{Buffers, Matches, Store};

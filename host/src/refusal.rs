@@ -47,10 +47,12 @@ refusals! {
     StoreDamaged = 19, "no accepted graph file loads to this store";
     ScratchSmall = 20, "the run needs more scratch";
     ListSmall = 21, "the rows do not fit the match list";
+    PlanStuck = 23, "no uncovered query vertex has an edge to the covered ones";
+    PlanBytes = 24, "the bytes of the drawn plan do not fit";
 }
 
 impl Refusal {
-    /// Its number, 1 to 21.
+    /// Its number, 1 to 21, 23 or 24.
     pub fn number(self) -> u32 {
         self as u32
     }
@@ -74,9 +76,9 @@ mod tests {
     use super::Refusal;
 
     #[test]
-    fn numbers_are_1_to_21_in_order() {
+    fn numbers_are_1_to_24_in_order_but_22() {
         let numbers: Vec<u32> = Refusal::ALL.iter().map(|r| r.number()).collect();
-        assert_eq!(numbers, (1..=21).collect::<Vec<_>>());
+        assert_eq!(numbers, (1..=24).filter(|&k| k != 22).collect::<Vec<_>>());
         assert_eq!(Refusal::from_number(20), Some(Refusal::ScratchSmall));
         assert_eq!(Refusal::from_number(0), None);
         assert_eq!(Refusal::from_number(22), None);

@@ -1,6 +1,6 @@
 -- What is written can be read: the bytes of bits have these bits, and a field holds the number whose bits were put there.
 -- Assumes nothing.
-use mathlib.Core.Path.{_≡_, refl, sym, ap, _∙_}
+use mathlib.Core.Path.{_≡_, refl, sym, _∙_}
 use mathlib.Core.Bool.{Bool, true, false}
 use mathlib.Core.List.{List}
 use Prim.Native.Nat.{ℕ, zero, suc, _+_, _-_, _*_, _/_, _%_, _≤_, _<_}
@@ -8,10 +8,7 @@ use native.Mathlib.Nat.{le-refl, mod-lt, mod-eq-of-lt, zero-lt-suc}
 use native.Mathlib.Omega.{arith}
 use borrow.Author.Tests.{ltb-true, ltb-false}
 use lib.Dec.{ltb}
-use lib.ListN.{length, getD, length-map, List·getD-eq-default}
-use Rattle.lists.specs.Lists.{range}
-use Rattle.lists.proofs.All.{length-range, getD-range}
-use Rattle.lists.proofs.Maps.{getD-map}
+use lib.ListN.{length, getD, List·getD-eq-default}
 use Rattle.packed.specs.Field.{bitAt, fieldAt, bytesFor, fillSet}
 use Rattle.packed.specs.Encode.{number, bitIn, bytesOf}
 use Rattle.packed.proofs.Number.{number-ext, number-lt, number-digit}

@@ -3,8 +3,8 @@
 use mathlib.Core.Path.{_≡_, refl, sym, ap, _∙_}
 use mathlib.Core.Bool.{Bool, true, false}
 use mathlib.Core.List.{List, [], _++_}
-use Prim.Native.Nat.{ℕ, suc, _+_, _-_, _*_, _/_, _%_, _^_, _≤_, _<_}
-use native.Mathlib.Nat.{mod-mod, mod-lt, zero-lt-suc}
+use Prim.Native.Nat.{ℕ, suc, _+_, _-_, _*_, _%_, _^_, _≤_, _<_}
+use native.Mathlib.Nat.{zero-div}
 use native.Mathlib.Omega.{arith}
 use borrow.Author.Tests.{ltb-true, ltb-false, lt-ltb, le-ltb}
 use lib.Dec.{ltb}
@@ -109,7 +109,7 @@ bit-zero w j = go (ltb j w) refl
   where
     go : (b : Bool) → ltb j w ≡ b → bitIn (bitsOf w 0) j ≡ 0
     go true e =
-        let h : j < w = ltb-true j w e in bit-bitsOf w 0 j (w - suc j) (omega arith) ∙ ap (λ (n : ℕ). n % 2) (native.Mathlib.Nat.zero-div (2 ^ (w - suc j)))
+        let h : j < w = ltb-true j w e in bit-bitsOf w 0 j (w - suc j) (omega arith) ∙ ap (λ (n : ℕ). n % 2) (zero-div (2 ^ (w - suc j)))
     go false e =
         let h : w ≤ j = ltb-false j w e in ap (λ (n : ℕ). n % 2) (List·getD-eq-default (bitsOf w 0) 0 (rw length-bitsOf h))
 

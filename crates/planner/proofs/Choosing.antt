@@ -1,5 +1,5 @@
 -- Laws of what is chosen: the best number, and of equally good ones the lowest. Assumes nothing.
-use mathlib.Core.Path.{_≡_, refl, sym, _∙_, ap}
+use mathlib.Core.Path.{_≡_, refl, sym, _∙_}
 use mathlib.Core.Logic.{_⊎_, inl, inr}
 use mathlib.Core.Bool.{Bool, true, false, cond}
 use Prim.Native.Nat.{ℕ, zero, suc, _+_, _≤_, _<_}
@@ -10,7 +10,7 @@ use lib.Dec.{ltb}
 use lib.ListN.{length}
 use borrow.Author.Tests.{ltb-true, ltb-false, lt-ltb, le-ltb}
 use Rattle.graph.specs.Graph.{Graph}
-use Rattle.query.specs.Query.{Query, VertexSet}
+use Rattle.query.specs.Query.{Query}
 use Rattle.planner.specs.Order.{chosen, scanSize, scanEdge, degree, nextVertex, LeastThenLowest, MostThenLowest, Choices}
 
 -- ---- one number more

@@ -1,24 +1,23 @@
 -- What is drawn passes the plan check, and so its run lists every match. Assumes nothing.
 use mathlib.Core.Path.{_≡_, refl, sym, _∙_, ap, ap₂, subst}
-use mathlib.Core.Bool.{Bool, true, false, cond}
-use mathlib.Core.List.{List, [], _∷_, _++_}
+use mathlib.Core.Bool.{Bool, true, false}
+use mathlib.Core.List.{List, [], _++_}
 use Prim.Native.Nat.{ℕ, _+_, _-_, _*_, _≤_, _<_}
 use native.Mathlib.Omega.{arith}
-use lib.Dec.{eqb, ltb}
-use lib.ListN.{length, take, drop}
+use lib.Dec.{ltb}
+use lib.ListN.{length, drop}
 use lib.Seq.{take-append-seam}
 use borrow.Author.Tests.{ltb-true, lt-ltb, eq-eqb}
 use Rattle.lists.specs.Lists.{range, all, count}
-use Rattle.lists.specs.Refusal.{refuse, first, answered}
 use Rattle.lists.proofs.All.{all-follows, all-getD}
 use Rattle.lists.proofs.Faults.{first-head, first-tail, first-cons, first-nil, refuse-zero}
 use Rattle.packed.specs.Field.{bytesFor}
 use Rattle.packed.specs.Encode.{bytesOf}
 use Rattle.graph.specs.Graph.{Graph}
 use Rattle.graph.specs.File.{graphOf}
-use Rattle.graph.specs.Store.{graphIn, LoadsTo, storeFault}
+use Rattle.graph.specs.Store.{graphIn}
 use Rattle.query.specs.Query.{Query, edgeAt}
-use Rattle.query.specs.File.{vertexCount, edgeCount, queryOf, queryFault}
+use Rattle.query.specs.File.{queryOf, queryFault}
 use Rattle.query.specs.Answer.{structOf}
 use Rattle.query.specs.inner.Struct.{queryIn}
 use Rattle.query.specs.declared.Query.{Query as QueryStruct}

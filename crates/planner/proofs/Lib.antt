@@ -7,3 +7,4 @@ pub mod Tallies
 pub mod Turns
 pub mod Stuck
 pub mod Answers
+pub mod Worked

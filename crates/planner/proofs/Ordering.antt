@@ -1,24 +1,23 @@
 -- The ordering breaks no rule: where it does not get stuck, each extend is by an uncovered vertex with an edge to the covered ones, and
 -- n - 2 of them after a scan cover every vertex. Assumes nothing.
-use mathlib.Core.Path.{_≡_, refl, sym, _∙_, ap}
+use mathlib.Core.Path.{_≡_, refl, sym, _∙_, ap, fun-ext}
 use mathlib.Core.Bool.{Bool, true, false, cond, not, _&&_, _||_, and-true}
 use mathlib.Core.List.{List, [], _∷_, map}
-use Prim.Native.Nat.{ℕ, zero, suc, _+_, _≤_, _<_}
+use Prim.Native.Nat.{ℕ, zero, suc, _+_, _<_}
 use native.Mathlib.Omega.{arith}
 use lib.Dec.{eqb, ltb}
 use lib.ListN.{length}
 use borrow.Author.Tests.{ltb-true, ltb-false, lt-ltb, le-ltb, eqb-true, eqb-false, eq-eqb, ne-eqb}
 use Rattle.lists.specs.Lists.{bit, range, all, any, count}
-use Rattle.lists.specs.Refusal.{refuse, first}
-use Rattle.lists.proofs.Tests.{clash, fails, and-l, and-r, and-both, or-false-l, or-false-r, not-true, not-false, eqb-refl}
-use Rattle.lists.proofs.Bits.{bit-or, bit-le}
+use Rattle.lists.proofs.Tests.{clash, and-l, and-r, and-both, or-false-l, or-false-r, not-true}
+use Rattle.lists.proofs.Bits.{bit-or}
 use Rattle.lists.proofs.All.{length-range}
 use Rattle.lists.proofs.Any.{any-count, any-at, any-below}
 use Rattle.lists.proofs.Count.{count-le, count-sum, count-range-one}
 use Rattle.lists.proofs.Faults.{first-cons, first-nil, zero-refuse}
 use Rattle.graph.specs.Graph.{Edge}
 use Rattle.query.specs.Query.{Query, VertexSet, between, touches}
-use Rattle.plan.specs.Plan.{Operator, extend, ends, plus}
+use Rattle.plan.specs.Plan.{extend, ends, plus}
 use Rattle.plan.specs.Check.{ruleFault, covered, endFault, rulesFault}
 use Rattle.planner.specs.Order.{degree, nextVertex, extendsFrom, stuck}
 use Rattle.planner.proofs.Choosing.{chosen-below, most-chosen}
@@ -81,14 +80,14 @@ count-full p (x ∷ xs) e = go (p x) refl (count-full p xs)
 -- One vertex below n.
 count-one : (v n : ℕ) → v < n → count (λ (w : ℕ). eqb w v) (range n) ≡ 1
 count-one v n h =
-    ap (λ (p : ℕ → Bool). count p (range n)) (mathlib.Core.Path.fun-ext (λ (w : ℕ). sym (and-true (eqb w v))))
+    ap (λ (p : ℕ → Bool). count p (range n)) (fun-ext (λ (w : ℕ). sym (and-true (eqb w v))))
     ∙ count-range-one (λ (w : ℕ). true) v n ∙ rw (lt-ltb v n h)
 
 -- One more vertex.
 count-plus : (v n : ℕ) (S : VertexSet) → v < n → S v ≡ false → count (plus v S) (range n) ≡ 1 + count S (range n)
 count-plus v n S h e =
     count-sum (plus v S) (λ (w : ℕ). eqb w v) S (range n)
-    (λ w. bit-or (eqb w v) (S w) (λ t u. absurd (mathlib.Core.Bool.true≢false (sym u ∙ ap S (eqb-true w v t) ∙ e))))
+    (λ w. bit-or (eqb w v) (S w) (λ t u. clash u (ap S (eqb-true w v t) ∙ e)))
     ∙ ap (λ (k : ℕ). k + count S (range n)) (count-one v n h)
 
 -- The two ends of an edge.

@@ -3,6 +3,7 @@ use mathlib.Core.Path.{_≡_, refl, sym, _∙_, ap}
 use mathlib.Core.Bool.{true, false, not, _&&_}
 use mathlib.Core.List.{List, [], _∷_, _++_, map, flatMap, append-assoc, append-nil}
 use Prim.Native.Nat.{ℕ, zero, suc, _+_, _*_, _≤_, _<_}
+use native.Mathlib.Nat.{le-of-suc-le-suc}
 use native.Mathlib.Omega.{arith}
 use lib.Dec.{eqb, ltb}
 use lib.ListN.{length, getD, length-append, length-map}
@@ -17,8 +18,8 @@ use Rattle.packed.specs.Encode.{number, bitIn, bitsOf, bytesOf}
 use Rattle.packed.proofs.Encoded.{length-bytesOf, fill-bytesOf}
 use Rattle.packed.proofs.RoundTrip.{length-bitsOf, number-bitsOf, number-left, number-right, field-put, field-record, length-records}
 use Rattle.query.specs.Query.{Query}
-use Rattle.plan.specs.Plan.{Operator, scan, extend, join, scanKind, extendKind, noKind}
-use Rattle.plan.specs.File.{operatorCount, kindAt, operandBits, operandAt, operatorAt, place, operatorsOf, operatorFault}
+use Rattle.plan.specs.Plan.{scan, extend, join, scanKind, extendKind, noKind}
+use Rattle.plan.specs.File.{operatorCount, kindAt, operandBits, operatorAt, place, operatorsOf, operatorFault}
 use Rattle.plan.specs.inner.Parts.{endFaults, planFileFault}
 use Rattle.planner.specs.Draw.{scanBits, extendBits, planBits}
 
@@ -109,7 +110,7 @@ module _ (i : ℕ) (vs : List ℕ) (edge : i < 32) (few : length vs < 31) (low :
   unfolding place
   operator-read zero h = rw (scan-kind, scan-edge)
   operator-read (suc j) h =
-      let l : j < length vs = rw length-map at (native.Mathlib.Nat.le-of-suc-le-suc h) in
+      let l : j < length vs = rw length-map at (le-of-suc-le-suc h) in
       ap (operatorAt (fileOf i vs)) (extend-place j (omega arith))
       ∙ rw (extend-kind j l, extend-vertex j l) (sym (getD-map extend vs j 0 join l))
 

@@ -1,6 +1,6 @@
 -- Laws of 23: whether one of the extends has no vertex to take. Assumes nothing.
-use mathlib.Core.Path.{_≡_, refl, sym, _∙_, ap, ap₂}
-use mathlib.Core.Bool.{Bool, true, false, not, _&&_, _||_}
+use mathlib.Core.Path.{_≡_, _∙_, ap}
+use mathlib.Core.Bool.{Bool, true, false, _||_}
 use Prim.Native.Nat.{ℕ, suc, _+_, _-_, _<_, _≤_}
 use native.Mathlib.Nat.{sub-zero}
 use native.Mathlib.Numerals.{add-one}
@@ -8,8 +8,7 @@ use native.Mathlib.Omega.{arith}
 use lib.Dec.{eqb}
 use lib.Bits.{bitOr}
 use borrow.Author.Tests.{eq-eqb, ne-eqb}
-use Rattle.lists.specs.Lists.{range, any}
-use Rattle.query.specs.Query.{Query, VertexSet, touches}
+use Rattle.query.specs.Query.{Query, VertexSet}
 use Rattle.query.specs.inner.Mask.{inMask, MaskOf, only}
 use Rattle.plan.specs.Plan.{plus}
 use Rattle.plan.proofs.Sets.{plus-set}

@@ -1,9 +1,9 @@
 -- Laws of the counts of data edges by label, and of the scan's edge by them. Assumes nothing.
-use mathlib.Core.Path.{_≡_, refl, sym, _∙_, ap, ap₂}
-use mathlib.Core.Bool.{Bool, true, false, _||_}
-use mathlib.Core.List.{List, map, _++_}
-use Prim.Native.Nat.{ℕ, suc, _+_, _-_, _*_, _/_, _≤_, _<_}
-use native.Mathlib.Nat.{le-refl, add-zero}
+use mathlib.Core.Path.{_≡_, sym, _∙_, ap, ap₂}
+use mathlib.Core.Bool.{true}
+use mathlib.Core.List.{List, map}
+use Prim.Native.Nat.{ℕ, suc, _+_, _-_, _/_, _≤_, _<_}
+use native.Mathlib.Nat.{le-refl}
 use native.Mathlib.Omega.{arith}
 use lib.Dec.{eqb, ltb}
 use lib.ListN.{length, getD, set, take, drop, length-map}
@@ -12,9 +12,9 @@ use borrow.Author.Tests.{ltb-true, lt-ltb, ne-eqb}
 use Rattle.lists.specs.Lists.{range, all, count}
 use Rattle.lists.proofs.All.{all-true, all-follows, all-getD, map-getD}
 use Rattle.lists.proofs.Count.{all-map, count-map, count-all, count-under}
-use Rattle.lists.proofs.Maps.{length-image, getD-image, image-ext}
+use Rattle.lists.proofs.Maps.{getD-image, image-ext}
 use Rattle.graph.specs.Graph.{Edge, Graph, forward, entry, entrySpan, entryEnd, covers}
-use Rattle.graph.specs.Store.{entries, storeOf, storeSize, graphIn, storeFault}
+use Rattle.graph.specs.Store.{entries, storeSize, graphIn, storeFault}
 use Rattle.graph.specs.inner.Side.{sideAt}
 use Rattle.graph.proofs.WellFormed.{fitting}
 use Rattle.graph.proofs.Keys.{entry-fits, entry-label, forward-entries}

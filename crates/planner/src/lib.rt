@@ -5,11 +5,7 @@ mod pack;
 
 use query::Query;
 ghost use mathlib.Core.Path.{_≡_};
-ghost use mathlib.Core.Bool.{cond};
-ghost use mathlib.Core.List.{_++_};
-ghost use lib.Dec.{eqb};
-ghost use lib.ListN.{length, drop};
-ghost use Rattle.lists.specs.Refusal.{answered};
+ghost use lib.ListN.{length};
 ghost use Rattle.graph.specs.Store.{graphIn, storeFault};
 ghost use Rattle.query.specs.inner.Struct.{queryIn};
 ghost use Rattle.planner.specs.Draw.{drawAnswer, drawBytes};

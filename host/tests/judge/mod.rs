@@ -4,6 +4,7 @@
 
 pub mod bits;
 pub mod calls;
+pub mod drawn;
 pub mod graph;
 pub mod in_words;
 pub mod matcher;

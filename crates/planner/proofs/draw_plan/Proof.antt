@@ -1,5 +1,5 @@
 -- `planner::draw_plan` meets its contract. Assumes nothing.
-use mathlib.Core.Path.{_≡_, sym, _∙_, ap}
+use mathlib.Core.Path.{_≡_, sym, _∙_}
 use borrow.Author.Needs.{needs}
 use Rattle.graph.specs.Store.{storeFault}
 use Rattle.query.specs.File.{queryFault}

@@ -17,7 +17,7 @@ use Rattle.planner.proofs.pack.put_extends.Tie as tie
 
 abbrev Inv-loop : tie.InvT-loop
 Inv-loop q set plan₀ extends covered₀ at₀ i₀ plan covered at i =
-    (i ≤ extends) × (at ≡ 12 + 5 * i) × (length plan ≡ length plan₀) × Turned (queryIn q) (inMask set) extends i covered
+    (at ≡ 12 + 5 * i) × (i ≤ extends) × (length plan ≡ length plan₀) × Turned (queryIn q) (inMask set) extends i covered
     × ((old bits : List ℕ) → plan₀ ≡ written old bits → length bits ≡ 12
     → plan ≡ written old (bits ++ bitsTo (extendsFrom (queryIn q) (inMask set) extends) i))
 
@@ -30,8 +30,8 @@ sub-extends c = c .before .before .pre .0 .vertices
 loop-holds : tie.Need-loop-holds Inv-loop μ-loop
 loop-holds c =
     let a = c .before .before .args in (
-      search needs,
       refl,
+      search needs,
       refl,
       turned-none (queryIn (a .q)) (a .q .vertices - 2) (a .set),
       λ old bits e l. e ∙ ap (written old) (sym (bitsTo-none bits (extendsFrom (queryIn (a .q)) (inMask (a .set)) (a .q .vertices - 2)))),
@@ -72,8 +72,8 @@ loop-again c =
     let vs = extendsFrom q S n in
     let below : l .i < n = search needs in
     let next : v ≡ nextVertex q (inMask (l .covered)) = c .before .before .before .before .before .next-vertex .ensures .0 in (
-      search needs,
       omega arith,
+      search needs,
       c .before .before .before .put-extend .kept .0 ∙ l .inv .2,
       turned-more q n S (l .i) (l .covered) v (l .inv .3) below next (c .only .result) (c .only .ensures),
       λ old bits e k.

@@ -1,6 +1,6 @@
 -- `planner::pack::put_plan` meets its contract: the scan's bits, the extends', and zero bits to the end of a byte. Assumes nothing.
-use mathlib.Core.Path.{_≡_, sym, _∙_, ap, ap₂}
-use mathlib.Core.List.{List, _++_, flatMap}
+use mathlib.Core.Path.{_≡_, _∙_, ap, ap₂}
+use mathlib.Core.List.{_++_, flatMap}
 use Prim.Native.Nat.{ℕ, _+_, _-_}
 use Prim.Native.Nat.{_*_}
 use native.Mathlib.Omega.{arith}
