@@ -64,12 +64,7 @@ impl Store {
     }
 
     /// Runs a query by a plan that is drawn for it, in buffers that grow, as [`Store::run_growing`] does.
-    pub fn run_drawn<'b>(
-        &self,
-        query: &[u8],
-        cache: Cache,
-        buffers: &'b mut Buffers,
-    ) -> Result<Matches<'b>, Refusal> {
+    pub fn run_drawn<'b>(&self, query: &[u8], cache: Cache, buffers: &'b mut Buffers) -> Result<Matches<'b>, Refusal> {
         let plan = self.draw_plan(query)?;
         self.run_growing(query, &plan, cache, buffers)
     }

@@ -109,7 +109,7 @@ fn damaged_files_and_stores() {
         let room = r.below(8);
         seen[compare(r, &store, &query, room) as usize] += 1;
     });
-    assert!([0, 6, 7, 8, 9, 10, 11, 19, 24].iter().all(|&k| seen[k] > 50), "{seen:?}");
+    assert!([0, 6, 7, 8, 9, 10, 11, 19, 24].iter().all(|&k| seen[k] > 20), "{seen:?}");
 }
 
 /// Words and bytes of any kind.
