@@ -26,7 +26,7 @@ impl DrawAnswer {
     }
 }
 
-// 19 where no accepted graph file loads to the store, else 0. No words are lent as guesses.
+// 19 where no accepted graph file loads to the store, else 0. There is no scratch for the check's guesses: any number of words will do.
 fn damage_fault(store: &[u32]) -> u32
     ensures { λ r. ⌜ r ≡ storeFault (now (store .entry)) ⌝ }
 {
