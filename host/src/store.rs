@@ -1,6 +1,7 @@
 //! A store that owns its words, and buffers that grow.
 use crate::operator::Operators;
-use crate::{load_into, run, Cache, Record, Refusal, Run, Work, MAX_OPERATORS, MAX_WORDS};
+use crate::{draw_plan_into, load_into, run};
+use crate::{Cache, Record, Refusal, Run, Work, MAX_DRAWN_BYTES, MAX_OPERATORS, MAX_WORDS};
 
 /// A loaded graph: the words that the engine reads.
 #[derive(Clone, Debug, PartialEq, Eq)]
@@ -53,6 +54,21 @@ impl Store {
     /// How many edges the graph has, as the store says.
     pub fn edges(&self) -> usize {
         self.words.get(1).map_or(0, |&m| m as usize)
+    }
+
+    /// Draws a plan for a query: the scan of the query edge whose label has the fewest edges here, and extends by the vertex with the
+    /// most query edges to the covered ones.
+    pub fn draw_plan(&self, query: &[u8]) -> Result<Vec<u8>, Refusal> {
+        let mut plan = vec![0; MAX_DRAWN_BYTES];
+        let bytes = draw_plan_into(&self.words, query, &mut plan)?;
+        plan.truncate(bytes);
+        Ok(plan)
+    }
+
+    /// Runs a query by a plan that is drawn for it, in buffers that grow, as [`Store::run_growing`] does.
+    pub fn run_drawn<'b>(&self, query: &[u8], cache: Cache, buffers: &'b mut Buffers) -> Result<Matches<'b>, Refusal> {
+        let plan = self.draw_plan(query)?;
+        self.run_growing(query, &plan, cache, buffers)
     }
 
     /// Runs a plan in scratch, list and records of the caller's, whose lengths decide whether it is refused.
