@@ -26,14 +26,6 @@ impl DrawAnswer {
     }
 }
 
-// 19 where no accepted graph file loads to the store, else 0. There is no scratch for the check's guesses: any number of words will do.
-fn damage_fault(store: &[u32]) -> u32
-    ensures { λ r. ⌜ r ≡ storeFault (now (store .entry)) ⌝ }
-{
-    let mut guesses = [0u32; 1];
-    store::store_fault(store, &mut guesses)
-}
-
 // Draws the plan of a query that was read over an accepted store: 23, 24, or the plan.
 fn draw_accepted(store: &[u32], q: Query, plan: &mut [u8]) -> DrawAnswer
     requires { ⌜ Drawable q × (storeFault (now store) ≡ 0) ⌝ }
@@ -62,7 +54,7 @@ pub fn draw_plan(store: &[u32], query: &[u8], plan: &mut [u8]) -> DrawAnswer
     if fault != 0 {
         return DrawAnswer::refused(fault);
     }
-    let fault = damage_fault(store);
+    let fault = store::store_fault(store);
     if fault != 0 {
         return DrawAnswer::refused(fault);
     }

@@ -61,6 +61,9 @@ module _ {store : List ℕ} {n m one two : ℕ} (k : Counted store n m one two) 
   pub counted-few : n < 65536
   counted-few = omega (arith, counts-fit store (k .counts) .few-vertices, k .vertices)
 
+  pub counted-edges : m < 1048576
+  counted-edges = omega (arith, counts-fit store (k .counts) .few-edges, k .edges)
+
   -- Both sides lie in the store.
   pub forward-room : one + n + 1 + m ≤ length store
   forward-room =

@@ -2,10 +2,9 @@
 use mathlib.Core.Path.{_≡_, _∙_}
 use mathlib.Core.Bool.{Bool, true, _&&_}
 use mathlib.Core.List.{List}
-use Prim.Native.Nat.{ℕ, _+_, _-_, _%_, _≤_, _<_}
-use native.Mathlib.Omega.{arith}
+use Prim.Native.Nat.{ℕ, _+_, _%_, _≤_, _<_}
 use lib.Dec.{ltb}
-use lib.ListN.{length, getD, drop, length-take}
+use lib.ListN.{length}
 use borrow.Author.Tests.{ltb-true}
 use Rattle.lists.specs.Lists.{all, ascendsFrom, ascending}
 use Rattle.lists.proofs.Tests.{and-l, and-r, and-both}
@@ -45,14 +44,6 @@ good-entry n k t =
       fits = ltb-true k 16777216 (search conj);
       inside = ltb-true (k % 65536) n (search conj);
     }
-
--- A vertex's list is no longer than its last offset.
-pub list-length : (store : List ℕ) (n side v : ℕ) → length (listOn store n side v) ≤ getD store (side + v + 1) 0
-list-length store n side v =
-    omega (
-      arith,
-      length-take (getD store (side + v + 1) 0 - getD store (side + v) 0) (drop (side + n + 1 + getD store (side + v) 0) store),
-    )
 
 -- A side that passes its tests, in a store that has its words.
 pub good-side : (store : List ℕ) (n m side : ℕ) → side + n + 1 + m ≤ length store → sideGood store n m side ≡ true → GoodSide store n side

@@ -9,6 +9,7 @@ pub mod Offsets
 pub mod Loops
 pub mod Counting
 pub mod Fits
+pub mod Order
 pub mod Spelt
 pub mod Tested
 pub mod Decided

@@ -10,10 +10,9 @@ use lib.Dec.{eqb, ltb}
 use lib.ListN.{length, getD, drop, drop-of-length-le}
 use lib.Seq.{drop-cons}
 use borrow.Author.Tests.{eq-eqb, ne-eqb, ltb-true, lt-ltb, le-ltb, le-leb, lt-leb}
-use Rattle.lists.specs.Lists.{bit, range, all, any, ascendsFrom, ascending}
+use Rattle.lists.specs.Lists.{range, all, any, ascendsFrom, ascending}
 use Rattle.lists.proofs.Tests.{clash, fails, and-l, and-r, and-both, eqb-sym}
 use Rattle.lists.proofs.All.{all-at, all-and, all-append, all-getD}
-use Rattle.lists.proofs.Bits.{bit-none, bit-some}
 use Rattle.search.specs.inner.Search.{placeOf}
 use Rattle.search.proofs.Places.{place-none, place-some}
 use Rattle.store.specs.inner.Side.{listOn}
@@ -36,17 +35,10 @@ pub answer-fails : (b : Bool) {r : ℕ} → r ≡ unless b → (r ≡ 0 → ⊥)
 answer-fails true e h = absurd (h e)
 answer-fails false e h = refl
 
--- The answer of a search for a word tells whether it is a member, and so does its place.
+-- The place of a word tells whether it is a member.
 module _ (x : ℕ) (s : List ℕ) where
   is-member : member x s ≡ any (eqb x) s
   is-member = ap (λ (t : ℕ → Bool). any t s) (sym (fun-ext (eqb-sym x)))
-
-  module _ {r : ℕ} (e : r ≡ bit (any (eqb x) s)) where
-    pub absent : r ≡ 0 → 19 ≡ unless (member x s)
-    absent z = refused (is-member ∙ bit-none (any (eqb x) s) e z)
-
-    pub present : (r ≡ 0 → ⊥) → 0 ≡ unless (member x s)
-    present f = passes (is-member ∙ bit-some (any (eqb x) s) e f)
 
   module _ (up : ascending s ≡ true) {r : ℕ} (e : r ≡ placeOf s x) where
     pub unplaced : r ≡ length s → 19 ≡ unless (member x s)

@@ -2,3 +2,4 @@
 pub mod Side
 pub mod Portion
 pub mod Check
+pub mod Order

@@ -2,16 +2,16 @@
 use crate::neighbours;
 use graph::Graph;
 use search::find;
-use search::has;
 ghost use mathlib.Core.Path.{_≡_};
 ghost use mathlib.Core.Bool.{true, _&&_};
 ghost use Prim.Native.Nat.{ℕ, suc, _+_, _≤_, _<_};
-ghost use lib.Dec.{ltb};
-ghost use lib.ListN.{length};
-ghost use Rattle.lists.specs.Lists.{all, ascending};
-ghost use Rattle.graph.specs.Graph.{maxGraphVertices};
+ghost use lib.Dec.{leb, ltb};
+ghost use lib.ListN.{length, getD, drop};
+ghost use Rattle.lists.specs.Lists.{bit, range, all, count, total, ascending};
+ghost use Rattle.graph.specs.Graph.{maxGraphVertices, maxGraphEdges};
 ghost use Rattle.graph.specs.Store.{storeFault};
 ghost use Rattle.store.specs.inner.Side.{Within};
+ghost use Rattle.store.specs.inner.Order.{fallsFrom, startFalls, faultsOf};
 ghost use Rattle.store.specs.inner.Check.{unless, countsFit, member, offsetsFit, offsetsOn, entryFits, listFits, sideFits, sideGood, GoodSide, listMirrored, sideMirrored, Counted};
 
 // 19 where a word is above a limit, else 0.
@@ -67,40 +67,6 @@ fn entry_fault(entry: u32, last: u32, n: usize) -> u32
     0
 }
 
-// 19 unless the entries of a vertex ascend strictly, with labels 1 to 255 and neighbours below n; else 0.
-fn list_fault(list: &[u32], n: usize) -> u32
-    ensures { λ r. ⌜ r ≡ unless (listFits n (now (list .entry))) ⌝ }
-{
-    let mut last = Graph::SPAN - 1;
-    let mut i = 0;
-    while i < list.len() {
-        let entry = list[i];
-        let fault = entry_fault(entry, last, n);
-        if fault != 0 {
-            return fault;
-        }
-        last = entry;
-        i += 1;
-    }
-    0
-}
-
-// 19 unless every list of a side is as it should be; else 0.
-fn lists_fault(store: &[u32], n: usize, side: usize) -> u32
-    requires { ⌜ ((v : ℕ) → v < n → Within (now store) n side v) ⌝ }
-    ensures { λ r. ⌜ r ≡ unless (sideFits (now (store .entry)) n side) ⌝ }
-{
-    let mut v = 0;
-    while v < n {
-        let fault = list_fault(neighbours(store, n, side, v), n);
-        if fault != 0 {
-            return fault;
-        }
-        v += 1;
-    }
-    0
-}
-
 // 19 unless the offsets of a side are as they should be; else 0.
 fn side_offsets_fault(store: &[u32], n: usize, m: u32, side: usize) -> u32
     requires { ⌜ side + n + 1 + m ≤ length (now store) ⌝ }
@@ -109,40 +75,128 @@ fn side_offsets_fault(store: &[u32], n: usize, m: u32, side: usize) -> u32
     offsets_fault(&store[side..side + n + 1], m)
 }
 
+// 1 where the next word is not above word i, else 0: sums of these take no branch.
+fn falls_at(part: &[u32], i: usize) -> u32
+    requires { ⌜ i + 1 < length (now part) ⌝ }
+    ensures { λ r. ⌜ (r ≡ bit (leb (getD (now (part .entry)) (i + 1) 0) (getD (now (part .entry)) i 0))) × (r ≤ 1) ⌝ }
+{
+    (part[i + 1] <= part[i]) as u32
+}
+
+// How many words of a part are not above the one before them.
+fn falls(part: &[u32]) -> u32
+    requires { ⌜ (0 < length (now part)) × (length (now part) ≤ 4294967296) ⌝ }
+    ensures { λ r. ⌜ r ≡ fallsFrom (getD (now (part .entry)) 0 0) (drop 1 (now (part .entry))) ⌝ }
+{
+    let mut sum = 0;
+    let mut i = 0;
+    while i + 1 < part.len() {
+        sum += falls_at(part, i);
+        i += 1;
+    }
+    sum
+}
+
+// 1 where the first word of v's list is not above the word before it, else 0.
+fn start_falls(store: &[u32], n: usize, side: usize, v: usize) -> u32
+    requires { ⌜ Within (now store) n side v ⌝ }
+    ensures { λ r. ⌜ (r ≡ bit (startFalls (now (store .entry)) n side v)) × (r ≤ 1) ⌝ }
+{
+    let from = store[side + v];
+    if store[side + v + 1] <= from {
+        return 0;
+    }
+    falls_at(store, side + n + from as usize)
+}
+
+// How many lists of a side have such a first word.
+fn starts_fall(store: &[u32], n: usize, side: usize) -> u32
+    requires { ⌜ ((v : ℕ) → v < n → Within (now store) n side v) × (n < suc maxGraphVertices) ⌝ }
+    ensures { λ r. ⌜ r ≡ count (startFalls (now (store .entry)) n side) (range n) ⌝ }
+{
+    let mut sum = 0;
+    let mut v = 0;
+    while v < n {
+        sum += start_falls(store, n, side, v);
+        v += 1;
+    }
+    sum
+}
+
+// How many of the ranges of an entry are broken.
+fn entry_faults(entry: u32, n: u32) -> u32
+    ensures { λ r. ⌜ (r ≡ faultsOf n entry) × (r ≤ 3) ⌝ }
+{
+    (entry < Graph::SPAN) as u32
+        + (Graph::ENTRY_END <= entry) as u32
+        + (n <= entry % Graph::SPAN) as u32
+}
+
+// The same of all entries of a part.
+fn entries_faults(part: &[u32], n: u32) -> u32
+    requires { ⌜ length (now part) < suc maxGraphEdges ⌝ }
+    ensures { λ r. ⌜ r ≡ total (faultsOf n) (now (part .entry)) ⌝ }
+{
+    let mut sum = 0;
+    let mut i = 0;
+    while i < part.len() {
+        sum += entry_faults(part[i], n);
+        i += 1;
+    }
+    sum
+}
+
+// 19 unless every list of a side is as it should be; else 0. No list is walked by itself: all entries are tested in turn, and a word that
+// is not above the one before it is the first of a list.
+fn lists_fault(store: &[u32], n: usize, m: u32, side: usize) -> u32
+    requires { ⌜ (side + n + 1 + m ≤ length (now store)) × (offsetsFit m (offsetsOn (now store) n side) ≡ true) ⌝ }
+    requires { ⌜ (n < suc maxGraphVertices) × (m < suc maxGraphEdges) ⌝ }
+    ensures { λ r. ⌜ r ≡ unless (sideFits (now (store .entry)) n side) ⌝ }
+{
+    let before = side + n;
+    let end = before + 1 + m as usize;
+    if entries_faults(&store[before + 1..end], n as u32) != 0 {
+        return 19;
+    }
+    if falls(&store[before..end]) != starts_fall(store, n, side) {
+        return 19;
+    }
+    0
+}
+
 // 19 unless the offsets of a side and its lists are as they should be; else 0.
 fn side_fault(store: &[u32], n: usize, m: u32, side: usize) -> u32
     requires { ⌜ side + n + 1 + m ≤ length (now store) ⌝ }
+    requires { ⌜ (n < suc maxGraphVertices) × (m < suc maxGraphEdges) ⌝ }
     ensures { λ r. ⌜ r ≡ unless (sideGood (now (store .entry)) n m side) ⌝ }
 {
     let fault = side_offsets_fault(store, n, m, side);
     if fault != 0 {
         return fault;
     }
-    lists_fault(store, n, side)
+    lists_fault(store, n, m, side)
 }
 
-// 19 where an ascending list lacks a word, else 0.
-fn absent_fault(list: &[u32], x: u32) -> u32
-    requires { ⌜ ascending (now list) ≡ true ⌝ }
-    ensures { λ r. ⌜ r ≡ unless (member x (now (list .entry))) ⌝ }
+// A byte as a place.
+fn wide(byte: u8) -> usize
+    ensures { λ r. ⌜ r ≡ byte ⌝ }
 {
-    if has(list, x) == 0 {
-        return 19;
-    }
-    0
+    byte as usize
 }
 
-// The same of the list of a vertex, by the vertex's guess of where the word stands, if it has one: the place after the last word
-// guessed. Lists are walked by ascending vertex, so that of one label the next mirror in a list is the next word. A guess that fails
-// is left, if a word stands there: that may be of another label, and come later. Any guess will do.
-fn guessed_fault(list: &[u32], x: u32, guesses: &mut [u32], vertex: usize) -> u32
-    requires { ⌜ (ascending (now list) ≡ true) × (length (now list) < 4294967296) ⌝ }
+// 19 where the ascending list of a vertex lacks a word, else 0, by the vertex's guess of where the word stands: the place after the last word guessed, up to a
+// multiple of 256. Lists are walked by ascending vertex, so that of one label the next mirror in a list is the next word. A guess that
+// fails is left, if a word stands there: that may be of another label, and come later. Any guess will do.
+fn guessed_fault(
+    list: &[u32],
+    x: u32,
+    guesses: &mut [u8; Graph::MAX_VERTICES],
+    vertex: usize,
+) -> u32
+    requires { ⌜ (ascending (now list) ≡ true) × (vertex < maxGraphVertices) ⌝ }
     ensures { λ r. ⌜ r ≡ unless (member x (now (list .entry))) ⌝ }
 {
-    if guesses.len() <= vertex {
-        return absent_fault(list, x);
-    }
-    let guess = guesses[vertex] as usize;
+    let guess = wide(guesses[vertex]);
     let place = find(list, x, guess);
     if place == list.len() {
         return 19;
@@ -152,7 +206,7 @@ fn guessed_fault(list: &[u32], x: u32, guesses: &mut [u32], vertex: usize) -> u3
             return 0;
         }
     }
-    guesses[vertex] = (place + 1) as u32;
+    guesses[vertex] = ((place + 1) % 256) as u8;
     0
 }
 
@@ -164,7 +218,7 @@ fn mirrored_list_fault(
     other: usize,
     v: usize,
     list: &[u32],
-    guesses: &mut [u32],
+    guesses: &mut [u8; Graph::MAX_VERTICES],
 ) -> u32
     requires { ⌜ GoodSide (now store) n other ⌝ }
     requires { ⌜ (v < n) × (n < suc maxGraphVertices) ⌝ }
@@ -196,7 +250,7 @@ fn mirrored_lists_fault(
     n: usize,
     side: usize,
     other: usize,
-    guesses: &mut [u32],
+    guesses: &mut [u8; Graph::MAX_VERTICES],
 ) -> u32
     requires { ⌜ ((v : ℕ) → v < n → Within (now store) n side v) ⌝ }
     requires { ⌜ GoodSide (now store) n other ⌝ }
@@ -212,6 +266,18 @@ fn mirrored_lists_fault(
         v += 1;
     }
     0
+}
+
+// The same, with no word guessed yet. A guess is a byte: a list of at most 256 words has its places, and of a longer one most guesses
+// are followed by a search.
+fn mirrored_side_fault(store: &[u32], n: usize, side: usize, other: usize) -> u32
+    requires { ⌜ ((v : ℕ) → v < n → Within (now store) n side v) ⌝ }
+    requires { ⌜ GoodSide (now store) n other ⌝ }
+    requires { ⌜ n < suc maxGraphVertices ⌝ }
+    ensures { λ r. ⌜ r ≡ unless (sideFits (now (store .entry)) n side && sideMirrored (now (store .entry)) n side other) ⌝ }
+{
+    let mut guesses = [0u8; Graph::MAX_VERTICES];
+    mirrored_lists_fault(store, n, side, other, &mut guesses)
 }
 
 // 19 unless the counts of a store are within their limits and its words are there; else 0.
@@ -235,14 +301,7 @@ fn counts_fault(store: &[u32]) -> u32
 }
 
 // 19 where the labels or the sides of a store whose counts are right are not as they should be; else 0.
-fn sides_fault(
-    store: &[u32],
-    n: usize,
-    m: u32,
-    forward: usize,
-    backward: usize,
-    guesses: &mut [u32],
-) -> u32
+fn sides_fault(store: &[u32], n: usize, m: u32, forward: usize, backward: usize) -> u32
     requires { ⌜ Counted (now store) n m forward backward ⌝ }
     ensures { λ r. ⌜ r ≡ storeFault (now (store .entry)) ⌝ }
 {
@@ -259,12 +318,11 @@ fn sides_fault(
         return back;
     }
     // Both sides have m entries, told apart: where each forward one has its mirror, no backward one is left over.
-    mirrored_lists_fault(store, n, forward, backward, guesses)
+    mirrored_side_fault(store, n, forward, backward)
 }
 
-// 19 where no accepted graph file loads to this store, words past the used ones ignored; else 0. The guesses are any number of words
-// and may hold anything: one a vertex makes the check fast.
-pub fn store_fault(store: &[u32], guesses: &mut [u32]) -> u32
+// 19 where no accepted graph file loads to this store, words past the used ones ignored; else 0.
+pub fn store_fault(store: &[u32]) -> u32
     ensures { λ r. ⌜ r ≡ storeFault (now (store .entry)) ⌝ }
 {
     let counts = counts_fault(store);
@@ -272,12 +330,5 @@ pub fn store_fault(store: &[u32], guesses: &mut [u32]) -> u32
         return counts;
     }
     let g = Graph::of_store(store);
-    sides_fault(
-        store,
-        g.vertices,
-        g.edges as u32,
-        g.forward(),
-        g.backward(),
-        guesses,
-    )
+    sides_fault(store, g.vertices, g.edges as u32, g.forward(), g.backward())
 }

@@ -78,21 +78,17 @@ fn load_row(rounds: Rounds, file: &[u8], store: &mut Vec<u32>) -> Row {
     Row { work: "Load".into(), rows: None, times, sqlite: None }
 }
 
-/// The engine checks a store in each run: here one that lists nothing, so that it does little else. It has a word of scratch a vertex,
-/// which the check takes for its guesses; they are zeroed each time, as a run leaves its scratch.
+/// The engine checks a store in each run: here one that lists nothing, so that it does little else. It has 100 words of
+/// scratch.
 fn check_row(rounds: Rounds, store: &[u32]) -> Row {
     let (query, plan) = cases::nothing();
-    let mut guesses = vec![0; store[0] as usize];
-    let mut scratch = guesses.clone();
+    let mut scratch = vec![0; 100];
     let nothing = Answer { refusal: 0, rows: 0, cost: 0, build: 0, probe: 0 };
     let times = race(
         rounds,
         [
             &mut || assert!(merge::check(store)),
-            &mut || {
-                assert!(same::check(store, &mut guesses));
-                guesses.fill(0);
-            },
+            &mut || assert!(same::check(store)),
             &mut || assert_eq!(engine(store, &query, &plan, false, &mut scratch, &mut []), nothing),
         ],
     );

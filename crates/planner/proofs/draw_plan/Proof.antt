@@ -15,7 +15,7 @@ read : (c : tie.Else1) → queryFault (c .before .before .before .before .before
 read c = sym (c .before .query-fault .ensures) ∙ c .if1 .left
 
 good : (c : tie.Else2) → storeFault (c .before .before .before .before .before .before .before .args .store .now) ≡ 0
-good c = sym (c .before .damage-fault .ensures) ∙ c .if2 .left
+good c = sym (c .before .store-fault .ensures) ∙ c .if2 .left
 
 query-fault-requires : tie.Need-query-fault-requires
 query-fault-requires c κs = search needs
@@ -28,8 +28,8 @@ returns c =
     let a = c .before .before .before .before .before .before .args in
     rw (c .refused .ensures) (settled-query (a .store .now) (a .query .now) (a .plan .now) _ (c .before .before .query-fault .ensures) (c .before .if1 .taken))
 
-damage-fault-requires : tie.Need-damage-fault-requires
-damage-fault-requires c κs = search needs
+store-fault-requires : tie.Need-store-fault-requires
+store-fault-requires c κs = search needs
 
 refused-requires-2 : tie.Need-refused-requires-2
 refused-requires-2 c κs = search needs
@@ -37,7 +37,7 @@ refused-requires-2 c κs = search needs
 returns-2 : tie.Need-returns-2
 returns-2 c =
     let a = c .before .before .before .before .before .before .before .before .args in
-    rw (c .refused2 .ensures) (settled-store (a .store .now) (a .query .now) (a .plan .now) (read (c .before .before .before)) _ (c .before .before .damage-fault .ensures) (c .before .if2 .taken))
+    rw (c .refused2 .ensures) (settled-store (a .store .now) (a .query .now) (a .plan .now) (read (c .before .before .before)) _ (c .before .before .store-fault .ensures) (c .before .if2 .taken))
 
 of-file-requires : tie.Need-of-file-requires
 of-file-requires c κs = query-readable _ (read (c .before .before))
@@ -61,7 +61,7 @@ draw-plan-spec =
     query-fault-requires
     refused-requires
     returns
-    damage-fault-requires
+    store-fault-requires
     refused-requires-2
     returns-2
     of-file-requires

@@ -1,56 +1,101 @@
--- `store::check::lists_fault` meets its contract: the lists of the vertices below v fit. Assumes nothing.
-use Prim.Native.Nat.{ℕ, _-_}
-use native.Mathlib.Omega.{arith}
+-- `store::check::lists_fault` meets its contract: the ranges of all entries, and then the order within lists. Assumes nothing.
+use Rattle.store.proofs.Offsets.{offsets-rising, offsets-within}
+use Rattle.store.proofs.Order.{ranges-refuse, order-refuses, order-passes}
 use borrow.Author.Needs.{needs}
-use Rattle.store.specs.inner.Side.{listOn}
-use Rattle.store.specs.inner.Check.{listFits, sideFits}
-use Rattle.store.proofs.Loops.{AllBelow, below-start, below-next, below-stop, below-end}
 use Rattle.store.proofs.check.lists_fault.Statement.{statement}
 use Rattle.store.proofs.check.lists_fault.Tie as tie
 
-abbrev Inv-loop : tie.InvT-loop
-Inv-loop store n side v₀ v = AllBelow (λ (u : ℕ). listFits n (listOn store n side u)) n v
+add-before : tie.Need-add-before
+add-before c = search needs
 
-abbrev μ-loop : tie.MeasureT-loop
-μ-loop store n side v₀ v = n - v
+add-end : tie.Need-add-end
+add-end c = search needs
 
-loop-holds : tie.Need-loop-holds Inv-loop μ-loop
-loop-holds c = below-start
+add-end-2 : tie.Need-add-end-2
+add-end-2 c = search needs
 
-neighbours-requires : tie.Need-neighbours-requires Inv-loop μ-loop
-neighbours-requires c κs = c .before .before .before .pre (c .before .loop .v) (omega arith)
+add-entries-faults : tie.Need-add-entries-faults
+add-entries-faults c = search needs
 
-list-fault-requires : tie.Need-list-fault-requires Inv-loop μ-loop
-list-fault-requires c κs = search needs
+mul-entries-faults : tie.Need-mul-entries-faults
+mul-entries-faults c = search needs
 
-returns : tie.Need-returns Inv-loop μ-loop
-unfolding sideFits
-returns c = below-stop (c .before .before .before .before .loop .inv) (omega arith) (rw (c .before .before .neighbours .ensures) at (c .before .list-fault .ensures)) (c .if1 .taken)
+sub-entries-faults : tie.Need-sub-entries-faults
+sub-entries-faults c = search needs
 
-add-v : tie.Need-add-v Inv-loop μ-loop
-add-v c = omega arith
+part-entries-faults-start : tie.Need-part-entries-faults-start
+part-entries-faults-start c = search needs
 
-loop-less : tie.Need-loop-less Inv-loop μ-loop
-loop-less c = omega arith
+part-entries-faults-end : tie.Need-part-entries-faults-end
+part-entries-faults-end c = search needs
 
-loop-again : tie.Need-loop-again Inv-loop μ-loop
-loop-again c = below-next (c .before .before .before .before .loop .inv) (omega arith) (rw (c .before .before .neighbours .ensures) at (c .before .list-fault .ensures)) (c .if1 .left)
+cast-entries-faults : tie.Need-cast-entries-faults
+cast-entries-faults c = search needs
 
-returns-2 : tie.Need-returns-2 Inv-loop μ-loop
-unfolding sideFits
-returns-2 c = below-end (c .before .loop .inv) (omega arith)
+entries-faults-requires : tie.Need-entries-faults-requires
+entries-faults-requires c κs = search needs
+
+returns : tie.Need-returns
+returns c =
+    let a = c .before .before .before .before in
+    ranges-refuse (a .args .store .now) (a .args .n) (a .args .m) (a .args .side) (a .pre .0 .0) (a .pre .0 .1) (c .before .entries-faults .ensures) (c .if1 .taken)
+
+mul-falls : tie.Need-mul-falls
+mul-falls c = search needs
+
+sub-falls : tie.Need-sub-falls
+sub-falls c = search needs
+
+part-falls-start : tie.Need-part-falls-start
+part-falls-start c = search needs
+
+part-falls-end : tie.Need-part-falls-end
+part-falls-end c = search needs
+
+falls-requires : tie.Need-falls-requires
+falls-requires c κs = search needs
+
+starts-fall-requires : tie.Need-starts-fall-requires
+starts-fall-requires c κs =
+    let a = c .before .before .before .before .before .before in
+    let room = a .pre .0 .0 in (
+      offsets-within (a .args .store .now) (a .args .n) (a .args .m) (a .args .side) room
+          (offsets-rising (a .args .store .now) (a .args .n) (a .args .m) (a .args .side) room (a .pre .0 .1)),
+      a .pre .1 .0,
+    )
+
+returns-2 : tie.Need-returns-2
+returns-2 c =
+    let a = c .before .before .before .before .before .before .before .before in
+    order-refuses (a .args .store .now) (a .args .n) (a .args .m) (a .args .side) (a .pre .0 .0) (a .pre .0 .1) (c .before .before .before .before .before .entries-faults .ensures)
+    (c .before .before .falls .ensures) (c .before .starts-fall .ensures) (c .if2 .taken)
+
+returns-3 : tie.Need-returns-3
+returns-3 c =
+    let a = c .before .before .before .before .before .before .before .before in
+    order-passes (a .args .store .now) (a .args .n) (a .args .m) (a .args .side) (a .pre .0 .0) (a .pre .0 .1) (c .before .before .before .before .before .entries-faults .ensures)
+    (c .before .before .falls .ensures) (c .before .starts-fall .ensures) (c .before .before .before .before .if1 .left) (c .if2 .left)
 
 pub lists-fault-spec : {M : Type 1} → statement M
 lists-fault-spec =
     tie.close
     (tie.spec
-    Inv-loop
-    μ-loop
-    loop-holds
-    neighbours-requires
-    list-fault-requires
+    add-before
+    add-end
+    add-end-2
+    add-entries-faults
+    mul-entries-faults
+    sub-entries-faults
+    part-entries-faults-start
+    part-entries-faults-end
+    cast-entries-faults
+    entries-faults-requires
     returns
-    add-v
-    loop-less
-    loop-again
-    returns-2)
+    mul-falls
+    sub-falls
+    part-falls-start
+    part-falls-end
+    falls-requires
+    starts-fall-requires
+    returns-2
+    returns-3)

@@ -1,6 +1,5 @@
 -- `store::check::mirrored_list_fault` meets its contract: the entries before i ascend up to `last`, fit, and have their mirrors.
 -- Assumes nothing.
-use mathlib.Core.Path.{_≡_, refl, _∙_}
 use Prim.Native.Nat.{ℕ, _+_, _-_, _%_, _<_}
 use native.Mathlib.Omega.{arith}
 use borrow.Author.Needs.{needs}
@@ -9,15 +8,13 @@ use denote.Ref.{now}
 use Rattle.store.specs.inner.Side.{listOn}
 use Rattle.store.specs.inner.Check.{member, mirror, listFits, listMirrored}
 use Rattle.store.proofs.Loops.{AllFrom, all-start, all-goes, all-halts, all-end, ListFrom, list-start, list-next, list-stop, list-end, entry-in, both-pass, one-fails, other-fails}
-use Rattle.store.proofs.Fits.{side-ascends, list-length}
+use Rattle.store.proofs.Fits.{side-ascends}
 use Rattle.store.proofs.check.mirrored_list_fault.Statement.{statement}
 use Rattle.store.proofs.check.mirrored_list_fault.Tie as tie
 
 abbrev Inv-loop : tie.InvT-loop
 Inv-loop store n other v list guesses₀ last₀ i₀ guesses last i =
-    ListFrom n list last i
-    × AllFrom (λ (k : ℕ). member (mirror v k) (listOn store n other (k % 65536))) list i
-    × (length guesses ≡ length guesses₀)
+    ListFrom n list last i × AllFrom (λ (k : ℕ). member (mirror v k) (listOn store n other (k % 65536))) list i
 
 abbrev μ-loop : tie.MeasureT-loop
 μ-loop store n other v list guesses₀ last₀ i₀ guesses last i = length list - i
@@ -26,7 +23,7 @@ sub-last : tie.Need-sub-last Inv-loop μ-loop
 sub-last c = omega arith
 
 loop-holds : tie.Need-loop-holds Inv-loop μ-loop
-loop-holds c = (list-start, all-start, refl)
+loop-holds c = (list-start, all-start)
 
 mul-entry : tie.Need-mul-entry Inv-loop μ-loop
 mul-entry c = omega arith
@@ -37,19 +34,16 @@ shared-slice-read-entry c = omega arith
 entry-fault-requires : tie.Need-entry-fault-requires Inv-loop μ-loop
 entry-fault-requires c κs = search needs
 
-same-length : tie.Need-same-length Inv-loop μ-loop
-same-length c = c .before .before .before .before .loop .inv .2
-
 returns : tie.Need-returns Inv-loop μ-loop
 returns c =
     let e = c .before in
-    let a = e .before .before .before .before .before .before .before in
+    let a = e .before .before .before .before .before .before in
     one-fails (listFits (a .args .n) (now (a .args .list))) (listMirrored (now (a .args .store)) (a .args .n) (a .args .other) (a .args .v) (now (a .args .list)))
     (list-stop (e .before .before .before .loop .inv .0) (omega arith) (e .entry-fault .ensures) (c .if1 .taken)) (c .if1 .taken)
 
 -- An entry that passed its test has a label below 256, and a neighbour below n.
 entry : (c : tie.Else1 Inv-loop μ-loop)
-    → let a = c .before .before .before .before .before .before .before .before in
+    → let a = c .before .before .before .before .before .before .before in
     let k = getD (now (a .args .list)) (c .before .before .before .before .loop .i) 0 in
     (k < 16777216) × (k % 65536 < a .args .n)
 entry c = entry-in _ _ _ (c .before .entry-fault .ensures) (c .if1 .left)
@@ -67,32 +61,23 @@ add-mirror : tie.Need-add-mirror Inv-loop μ-loop
 add-mirror c = omega (arith, entry c)
 
 neighbours-requires : tie.Need-neighbours-requires Inv-loop μ-loop
-neighbours-requires c κs = c .before .before .before .before .before .before .before .before .pre .0 .within _ (entry c .1)
+neighbours-requires c κs = c .before .before .before .before .before .before .before .pre .0 .within _ (entry c .1)
 
 guessed-fault-requires : tie.Need-guessed-fault-requires Inv-loop μ-loop
 guessed-fault-requires c κs =
     let e = c .before .before in
     let l = e .before .before .before .before in
-    let a = l .before .before .before .before in
-    let x = getD (now (a .args .list)) (l .loop .i) 0 % 65536 in
-    rw (c .before .neighbours .ensures) (
-      side-ascends (a .pre .0) _ (entry e .1),
-      omega (arith, list-length (now (a .args .store)) (a .args .n) (a .args .other) x, l .before .before .before .shared-slice-known .given (a .args .other + x + 1) .fits),
-    )
-
-same-length-2 : tie.Need-same-length-2 Inv-loop μ-loop
-same-length-2 c =
-    let g = c .before .before .before in
-    g .guessed-fault .kept .1 .1 .0 ∙ g .before .before .before .before .before .before .before .loop .inv .2
+    let a = l .before .before .before in
+    (rw (c .before .neighbours .ensures) (side-ascends (a .pre .0) _ (entry e .1)), omega (arith, entry e .1, a .pre .1 .1))
 
 returns-2 : tie.Need-returns-2 Inv-loop μ-loop
 unfolding listMirrored
 returns-2 c =
-    let g = c .before .before .before in
+    let g = c .before in
     let l = g .before .before .before .before .before .before .before in
-    let a = l .before .before .before .before in
+    let a = l .before .before .before in
     other-fails (listFits (a .args .n) (now (a .args .list))) (listMirrored (now (a .args .store)) (a .args .n) (a .args .other) (a .args .v) (now (a .args .list)))
-    (all-halts (l .loop .inv .1) (omega arith) (rw (g .before .before .neighbours .ensures) at (g .guessed-fault .ensures)) (c .if2 .taken))
+    (all-halts (l .loop .inv .1) (omega (arith, g .before .before .before .before .before .before .loop-test .taken)) (rw (g .before .before .neighbours .ensures) at (g .guessed-fault .ensures)) (c .if2 .taken))
     (c .if2 .taken)
 
 add-i : tie.Need-add-i Inv-loop μ-loop
@@ -103,21 +88,17 @@ loop-less c = omega arith
 
 loop-again : tie.Need-loop-again Inv-loop μ-loop
 loop-again c =
-    let g = c .before .before .before in
+    let g = c .before in
     let e = g .before .before .before in
     let l = e .before .before .before .before in (
       list-next (l .loop .inv .0) (omega arith) (e .before .entry-fault .ensures) (e .if1 .left),
       all-goes (l .loop .inv .1) (omega arith) (rw (g .before .before .neighbours .ensures) at (g .guessed-fault .ensures)) (c .if2 .left),
-      g .guessed-fault .kept .1 .1 .0 ∙ l .loop .inv .2,
     )
-
-same-length-3 : tie.Need-same-length-3 Inv-loop μ-loop
-same-length-3 c = c .before .loop .inv .2
 
 returns-3 : tie.Need-returns-3 Inv-loop μ-loop
 unfolding listMirrored
 returns-3 c =
-    let a = c .before .before .before .before .before in
+    let a = c .before .before .before .before in
     both-pass (listFits (a .args .n) (now (a .args .list))) (listMirrored (now (a .args .store)) (a .args .n) (a .args .other) (a .args .v) (now (a .args .list)))
     (list-end (c .before .loop .inv .0) (omega arith)) (all-end (c .before .loop .inv .1) (omega arith))
 
@@ -132,7 +113,6 @@ mirrored-list-fault-spec =
     mul-entry
     shared-slice-read-entry
     entry-fault-requires
-    same-length
     returns
     cast-x
     sub-mirror
@@ -140,10 +120,8 @@ mirrored-list-fault-spec =
     add-mirror
     neighbours-requires
     guessed-fault-requires
-    same-length-2
     returns-2
     add-i
     loop-less
     loop-again
-    same-length-3
     returns-3)

@@ -1,8 +1,7 @@
--- `store::check::side_fault` meets its contract: where the offsets fit, the lists lie in the store and decide. Assumes nothing.
+-- `store::check::side_fault` meets its contract: where the offsets fit, the lists decide. Assumes nothing.
 use mathlib.Core.Path.{_∙_}
 use borrow.Author.Needs.{needs}
 use denote.Ref.{now}
-use Rattle.store.proofs.Offsets.{offsets-rising, offsets-within}
 use Rattle.store.proofs.Decided.{offsets-refused, offsets-pass, offsets-then}
 use Rattle.store.proofs.check.side_fault.Statement.{statement}
 use Rattle.store.proofs.check.side_fault.Tie as tie
@@ -18,9 +17,7 @@ returns c =
 lists-fault-requires : tie.Need-lists-fault-requires
 lists-fault-requires c κs =
     let a = c .before .before .before in
-    offsets-within (now (a .args .store)) (a .args .n) (a .args .m) (a .args .side) (a .pre)
-    (offsets-rising (now (a .args .store)) (a .args .n) (a .args .m) (a .args .side) (a .pre)
-    (offsets-pass (now (a .args .store)) (a .args .n) (a .args .m) (a .args .side) (c .before .side-offsets-fault .ensures) (c .if1 .left)))
+    ((a .pre .0, offsets-pass (now (a .args .store)) (a .args .n) (a .args .m) (a .args .side) (c .before .side-offsets-fault .ensures) (c .if1 .left)), a .pre .1)
 
 returns-2 : tie.Need-returns-2
 returns-2 c =

@@ -11,32 +11,29 @@ counts-fault-requires : tie.Need-counts-fault-requires
 counts-fault-requires c κs = search needs
 
 returns : tie.Need-returns
-returns c = counts-refuse (now (c .before .before .before .before .args .store)) (c .before .counts-fault .ensures) (c .if1 .taken)
+returns c = counts-refuse (now (c .before .before .before .args .store)) (c .before .counts-fault .ensures) (c .if1 .taken)
 
 of-store-requires : tie.Need-of-store-requires
-of-store-requires c κs = counts-passed (now (c .before .before .before .before .args .store)) (c .before .counts-fault .ensures) (c .if1 .left) .named
+of-store-requires c κs = counts-passed (now (c .before .before .before .args .store)) (c .before .counts-fault .ensures) (c .if1 .left) .named
 
 cast-sides-fault : tie.Need-cast-sides-fault
-cast-sides-fault c = omega (arith, counts-passed (now (c .before .before .before .before .before .before .args .store)) (c .before .before .before .counts-fault .ensures) (c .before .before .if1 .left))
+cast-sides-fault c = omega (arith, counts-passed (now (c .before .before .before .before .before .args .store)) (c .before .before .before .counts-fault .ensures) (c .before .before .if1 .left))
 
 forward-requires : tie.Need-forward-requires
-forward-requires c κs = omega (arith, counts-passed (now (c .before .before .before .before .before .before .args .store)) (c .before .before .before .counts-fault .ensures) (c .before .before .if1 .left))
+forward-requires c κs = omega (arith, counts-passed (now (c .before .before .before .before .before .args .store)) (c .before .before .before .counts-fault .ensures) (c .before .before .if1 .left))
 
 backward-requires : tie.Need-backward-requires
-backward-requires c κs = omega (arith, counts-passed (now (c .before .before .before .before .before .before .before .args .store)) (c .before .before .before .before .counts-fault .ensures) (c .before .before .before .if1 .left))
+backward-requires c κs = omega (arith, counts-passed (now (c .before .before .before .before .before .before .args .store)) (c .before .before .before .before .counts-fault .ensures) (c .before .before .before .if1 .left))
 
 sides-fault-requires : tie.Need-sides-fault-requires
 sides-fault-requires c κs =
     record {
-      counts = fit-counts _ (counts-passed (now (c .before .before .before .before .before .before .before .before .before .args .store)) (c .before .before .before .before .before .before .counts-fault .ensures) (c .before .before .before .before .before .if1 .left));
+      counts = fit-counts _ (counts-passed (now (c .before .before .before .before .before .before .before .args .store)) (c .before .before .before .before .before .counts-fault .ensures) (c .before .before .before .before .if1 .left));
       vertices = omega arith;
       edges = omega arith;
       forward-at = omega arith;
       backward-at = omega arith;
     }
-
-same-length : tie.Need-same-length
-same-length c = search needs
 
 returns-2 : tie.Need-returns-2
 returns-2 c = search needs
@@ -52,5 +49,4 @@ store-fault-spec =
     forward-requires
     backward-requires
     sides-fault-requires
-    same-length
     returns-2)
