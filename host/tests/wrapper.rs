@@ -127,7 +127,7 @@ fn the_layout_of_a_record() {
     assert_eq!((std::mem::offset_of!(Record, rows), std::mem::offset_of!(Record, cost)), (0, 8));
     let mut records = [MARK; 3];
     let (store, query, plan) = (g().store(), triangle().file(), plan::file(&[Scan(0), Extend(2)]));
-    trace::run(&store, &query, &plan, Cache::On, &mut [0; 16], &mut [0; 6], &mut records).unwrap();
+    trace::run(&store, &query, &plan, Cache::On, &mut [0; 17], &mut [0; 6], &mut records).unwrap();
     assert_eq!(records, [Record { rows: 5, cost: 0 }, Record { rows: 2, cost: 13 }, MARK]);
 }
 
