@@ -67,8 +67,10 @@ impl Store {
 
     /// Runs a query by a plan that is drawn for it, in buffers that grow, as [`Store::run_growing`] does.
     pub fn run_drawn<'b>(&self, query: &[u8], cache: Cache, buffers: &'b mut Buffers) -> Result<Matches<'b>, Refusal> {
-        let plan = self.draw_plan(query)?;
-        self.run_growing(query, &plan, cache, buffers)
+        buffers.plan = self.draw_plan(query)?;
+        let Buffers { scratch, list, records, plan } = buffers;
+        let answer = self.run_until_it_fits(query, plan, cache, scratch, list, records)?;
+        Ok(Matches::new(query, plan, answer, list, records))
     }
 
     /// Runs a plan in scratch, list and records of the caller's, whose lengths decide whether it is refused.
@@ -94,15 +96,27 @@ impl Store {
         cache: Cache,
         buffers: &'b mut Buffers,
     ) -> Result<Matches<'b>, Refusal> {
-        let answer = loop {
-            let Buffers { scratch, list, records } = &mut *buffers;
+        let Buffers { scratch, list, records, .. } = buffers;
+        let answer = self.run_until_it_fits(query, plan, cache, scratch, list, records)?;
+        Ok(Matches::new(query, plan, answer, list, records))
+    }
+
+    fn run_until_it_fits(
+        &self,
+        query: &[u8],
+        plan: &[u8],
+        cache: Cache,
+        scratch: &mut Vec<u32>,
+        list: &mut Vec<u32>,
+        records: &mut [Record],
+    ) -> Result<Run, Refusal> {
+        loop {
             match run(&self.words, query, plan, cache, scratch, list, records) {
                 Err(Refusal::ScratchSmall) if scratch.len() < MAX_WORDS => grow(scratch),
                 Err(Refusal::ListSmall) if list.len() < MAX_WORDS => grow(list),
-                answer => break answer?,
+                answer => return answer,
             }
-        };
-        Ok(Matches::new(query, plan, answer, &buffers.list, &buffers.records))
+        }
     }
 }
 
@@ -111,12 +125,13 @@ fn grow(buffer: &mut Vec<u32>) {
     buffer.resize(words, 0);
 }
 
-/// Scratch and list for runs, grown as they ask for it, and records for the longest plan.
+/// Scratch and list for runs, grown as they ask for it, records for the longest plan, and the plan that was drawn last.
 #[derive(Clone, Debug, Default)]
 pub struct Buffers {
     scratch: Vec<u32>,
     list: Vec<u32>,
     records: [Record; MAX_OPERATORS],
+    plan: Vec<u8>,
 }
 
 impl Buffers {

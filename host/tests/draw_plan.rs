@@ -68,7 +68,7 @@ fn large_queries() {
 #[test]
 fn rows_of_drawn_plans() {
     let (mut rows, mut skipped) = (0, 0);
-    each(0..10_000, |r| {
+    each(0..25_000, |r| {
         let graph = Graph::random(r, 12);
         let query = Query::random(r, 6);
         let every: Vec<usize> = (0..query.vertices()).collect();
