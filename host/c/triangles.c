@@ -1,4 +1,4 @@
-/* Loads a graph of four vertices, lists its triangles with the work of each operator, and shows two refusals. */
+/* Loads a graph of four vertices, lists its triangles with the work of each operator, draws a plan for them, and shows two refusals. */
 #include <inttypes.h>
 #include <stddef.h>
 #include <stdio.h>
@@ -49,5 +49,13 @@ int main(void)
     refusal = trace_run(store, 26, query, sizeof query, plan, sizeof plan, true, scratch, 16, list, 6, records, 1,
                         &rows, &cost, &build, &probe);
     printf("with 1 record: %s, rows %" PRIu64 "\n", refusal == TRACE_RECORDS_SHORT ? "refused 22" : "accepted", rows);
+
+    uint8_t drawn[6];
+    uint64_t bytes;
+    refusal = trace_draw_plan(store, 26, query, sizeof query, drawn, sizeof drawn, &bytes);
+    printf("drawn: refusal %" PRIu32 ", %" PRIu64 " bytes:", refusal, bytes);
+    for (uint64_t i = 0; i < bytes; i++)
+        printf(" %02x", (unsigned)drawn[i]);
+    printf("\n");
     return 0;
 }

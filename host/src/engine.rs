@@ -1,4 +1,4 @@
-//! The three operations over borrowed buffers: the only place that calls the static library.
+//! The operations over borrowed buffers: the only place that calls the static library.
 #![allow(unsafe_code)]
 
 use crate::sys::{self, Record};
@@ -9,6 +9,9 @@ pub const MAX_WORDS: usize = 1 << 30;
 
 /// The most operators that a plan may have: as many records serve every plan.
 pub const MAX_OPERATORS: usize = 31;
+
+/// A drawn plan has no more bytes than this.
+pub const MAX_DRAWN_BYTES: usize = 6;
 
 /// Whether an extend reuses the vertices that it found for the row just before, where it may. The rows are the same, and the
 /// cost with it on is no higher; the extend needs as many words of scratch more as the longest set of vertices it found has.
@@ -76,6 +79,28 @@ pub fn check_plan(query: &[u8], plan: &[u8]) -> Result<usize, Refusal> {
         unsafe { sys::trace_check_plan(query.as_ptr(), query.len(), plan.as_ptr(), plan.len(), &mut operators) };
     accepted(number)?;
     Ok(size(operators))
+}
+
+/// Draws a plan for a query over a store, of one scan and extends, into bytes that the caller lends: [`MAX_DRAWN_BYTES`] are always
+/// enough. Answers how many bytes the plan has; they are the first ones, and [`check_plan`] accepts them.
+///
+/// Refused, the bytes are untouched; drawn, those past the plan are.
+pub fn draw_plan_into(store: &[u32], query: &[u8], plan: &mut [u8]) -> Result<usize, Refusal> {
+    let mut bytes = 0;
+    // SAFETY: each pointer and length are those of one slice, and the number is a local. The plan is borrowed alone.
+    let number = unsafe {
+        sys::trace_draw_plan(
+            store.as_ptr(),
+            store.len(),
+            query.as_ptr(),
+            query.len(),
+            plan.as_mut_ptr(),
+            plan.len(),
+            &mut bytes,
+        )
+    };
+    accepted(number)?;
+    Ok(size(bytes))
 }
 
 /// Runs a plan over a store: the rows are the list's first words, as many a row as the query has vertices, no two the same. The

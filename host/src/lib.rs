@@ -1,4 +1,4 @@
-//! Subgraph matching by a proved engine: load a packed graph, check a plan, run it.
+//! Subgraph matching by a proved engine: load a packed graph, check a plan or draw one, run it.
 //!
 //! The engine is written in Rattle and proved to meet its contracts: after an accepted run the list holds every match of the
 //! query once, and nothing else. A match gives different query vertices different data vertices. This crate is a thin, safe
@@ -27,6 +27,10 @@
 //! for work in matches.work() {
 //!     println!("{}: {} rows, cost {}", work.operator, work.rows, work.cost);
 //! }
+//!
+//! // Without a plan: one is drawn, here the same.
+//! assert_eq!(store.draw_plan(&query)?, plan);
+//! assert_eq!(store.run_drawn(&query, Cache::On, &mut buffers)?.len(), 2);
 //! # Ok::<(), trace::Refusal>(())
 //! ```
 //!
@@ -49,7 +53,9 @@ mod refusal;
 mod store;
 pub mod sys;
 
-pub use engine::{check_plan, load_into, run, Cache, Loaded, Run, MAX_OPERATORS, MAX_WORDS};
+pub use engine::{
+    check_plan, draw_plan_into, load_into, run, Cache, Loaded, Run, MAX_DRAWN_BYTES, MAX_OPERATORS, MAX_WORDS,
+};
 pub use operator::{Operator, Work};
 pub use refusal::Refusal;
 pub use store::{Buffers, Matches, Store};

@@ -1,6 +1,7 @@
 //! A store that owns its words, and buffers that grow.
 use crate::operator::Operators;
-use crate::{load_into, run, Cache, Record, Refusal, Run, Work, MAX_OPERATORS, MAX_WORDS};
+use crate::{draw_plan_into, load_into, run};
+use crate::{Cache, Record, Refusal, Run, Work, MAX_DRAWN_BYTES, MAX_OPERATORS, MAX_WORDS};
 
 /// A loaded graph: the words that the engine reads.
 #[derive(Clone, Debug, PartialEq, Eq)]
@@ -55,6 +56,23 @@ impl Store {
         self.words.get(1).map_or(0, |&m| m as usize)
     }
 
+    /// Draws a plan for a query: the scan of the query edge whose label has the fewest edges here, and extends by the vertex with the
+    /// most query edges to the covered ones.
+    pub fn draw_plan(&self, query: &[u8]) -> Result<Vec<u8>, Refusal> {
+        let mut plan = vec![0; MAX_DRAWN_BYTES];
+        let bytes = draw_plan_into(&self.words, query, &mut plan)?;
+        plan.truncate(bytes);
+        Ok(plan)
+    }
+
+    /// Runs a query by a plan that is drawn for it, in buffers that grow, as [`Store::run_growing`] does.
+    pub fn run_drawn<'b>(&self, query: &[u8], cache: Cache, buffers: &'b mut Buffers) -> Result<Matches<'b>, Refusal> {
+        buffers.plan = self.draw_plan(query)?;
+        let Buffers { scratch, list, records, plan } = buffers;
+        let answer = self.run_until_it_fits(query, plan, cache, scratch, list, records)?;
+        Ok(Matches::new(query, plan, answer, list, records))
+    }
+
     /// Runs a plan in scratch, list and records of the caller's, whose lengths decide whether it is refused.
     pub fn run<'l>(
         &self,
@@ -78,15 +96,27 @@ impl Store {
         cache: Cache,
         buffers: &'b mut Buffers,
     ) -> Result<Matches<'b>, Refusal> {
-        let answer = loop {
-            let Buffers { scratch, list, records } = &mut *buffers;
+        let Buffers { scratch, list, records, .. } = buffers;
+        let answer = self.run_until_it_fits(query, plan, cache, scratch, list, records)?;
+        Ok(Matches::new(query, plan, answer, list, records))
+    }
+
+    fn run_until_it_fits(
+        &self,
+        query: &[u8],
+        plan: &[u8],
+        cache: Cache,
+        scratch: &mut Vec<u32>,
+        list: &mut Vec<u32>,
+        records: &mut [Record],
+    ) -> Result<Run, Refusal> {
+        loop {
             match run(&self.words, query, plan, cache, scratch, list, records) {
                 Err(Refusal::ScratchSmall) if scratch.len() < MAX_WORDS => grow(scratch),
                 Err(Refusal::ListSmall) if list.len() < MAX_WORDS => grow(list),
-                answer => break answer?,
+                answer => return answer,
             }
-        };
-        Ok(Matches::new(query, plan, answer, &buffers.list, &buffers.records))
+        }
     }
 }
 
@@ -95,12 +125,13 @@ fn grow(buffer: &mut Vec<u32>) {
     buffer.resize(words, 0);
 }
 
-/// Scratch and list for runs, grown as they ask for it, and records for the longest plan.
+/// Scratch and list for runs, grown as they ask for it, records for the longest plan, and the plan that was drawn last.
 #[derive(Clone, Debug, Default)]
 pub struct Buffers {
     scratch: Vec<u32>,
     list: Vec<u32>,
     records: [Record; MAX_OPERATORS],
+    plan: Vec<u8>,
 }
 
 impl Buffers {

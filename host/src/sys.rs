@@ -39,6 +39,20 @@ extern "C" {
         operators: *mut u64,
     ) -> u32;
 
+    /// Draw plan. See `trace.h`.
+    ///
+    /// # Safety
+    /// As for [`trace_load`].
+    pub fn trace_draw_plan(
+        store: *const u32,
+        store_len: usize,
+        query: *const u8,
+        query_len: usize,
+        plan: *mut u8,
+        plan_len: usize,
+        bytes: *mut u64,
+    ) -> u32;
+
     /// Run. See `trace.h`.
     ///
     /// # Safety

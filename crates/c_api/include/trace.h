@@ -1,4 +1,4 @@
-/* Subgraph matching: load a packed graph, check a plan, run it. Link libc_api.a.
+/* Subgraph matching: load a packed graph, check or draw a plan, run it. Link libc_api.a.
  *
  * Every function returns 0, or the number of a refusal (below). After a refusal every number that a pointer takes is 0.
  * No input is a fault: any bytes and words, and any lengths, are answered. What is proved of each function is its contract in
@@ -6,7 +6,7 @@
  *
  *  - a pointer with a length points to that many bytes, words or records, which may be read, and written where it is not const;
  *  - no pointer is null, also where the length is 0, and each is aligned as its type asks;
- *  - what is written (store, scratch, list, records, the single numbers) overlaps nothing else that is passed;
+ *  - what is written (store, drawn plan, scratch, list, records, the single numbers) overlaps nothing else that is passed;
  *  - a bool is true or false.
  *
  * Nothing is kept between calls, and no function allocates, waits or prints: calls on different buffers may run at once, and
@@ -55,7 +55,9 @@ enum trace_refusal {
     TRACE_STORE_DAMAGED = 19,       /* no accepted graph file loads to this store */
     TRACE_SCRATCH_SMALL = 20,       /* the run needs more scratch */
     TRACE_LIST_SMALL = 21,          /* the rows do not fit the match list */
-    TRACE_RECORDS_SHORT = 22        /* the list of records is shorter than the plan's operators */
+    TRACE_RECORDS_SHORT = 22,       /* the list of records is shorter than the plan's operators */
+    TRACE_PLAN_STUCK = 23,          /* no uncovered query vertex has an edge to the covered ones */
+    TRACE_PLAN_BYTES = 24           /* the drawn plan's bytes do not fit */
 };
 
 /* What a run records of one operator: the rows of its result, and its cost. Scans and joins cost 0. */
@@ -77,6 +79,17 @@ uint32_t trace_load(const uint8_t *file, size_t file_len,
 uint32_t trace_check_plan(const uint8_t *query, size_t query_len,
                           const uint8_t *plan, size_t plan_len,
                           uint64_t *operators);
+
+/* Draws a plan for a query over a store, of one scan and n - 2 extends, and gives its length in bytes: at most 6. Refusals 6 to 11,
+ * 19, 23 and 24.
+ *
+ * The scan is of the query edge whose label has the fewest edges in the store (label 0 has them all), then the lowest index;
+ * each extend is by the uncovered vertex with the most query edges to the covered ones, then the lowest number. The first bytes
+ * of `plan` are then a plan file that trace_check_plan accepts. Refused, the bytes are untouched; drawn, those past the plan are. */
+uint32_t trace_draw_plan(const uint32_t *store, size_t store_len,
+                         const uint8_t *query, size_t query_len,
+                         uint8_t *plan, size_t plan_len,
+                         uint64_t *bytes);
 
 /* Runs a plan over a store, and gives the number of rows, the cost, and the sums of build rows and probe rows over all joins.
  * Refusals 6 to 22: 22 comes after those of the plan and before 19.

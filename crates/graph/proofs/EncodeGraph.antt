@@ -13,7 +13,7 @@ use Rattle.lists.proofs.All.{all-getD, all-range}
 use Rattle.lists.proofs.Count.{all-map}
 use Rattle.lists.proofs.Maps.{map-indices}
 use Rattle.packed.specs.Field.{fieldAt, fillSet, bytesFor}
-use Rattle.packed.specs.inner.Encode.{bitsOf, bytesOf, number, bitIn}
+use Rattle.packed.specs.Encode.{bitsOf, bytesOf, number, bitIn}
 use Rattle.packed.proofs.Number.{number-lt}
 use Rattle.packed.proofs.Encoded.{bitIn-lt, length-bytesOf, fill-bytesOf}
 use Rattle.packed.proofs.RoundTrip.{length-bitsOf, length-records, number-bitsOf, number-put, field-put, field-record}

@@ -1,6 +1,6 @@
 -- What is written can be read: the bytes of bits have these bits, and a field holds the number whose bits were put there.
 -- Assumes nothing.
-use mathlib.Core.Path.{_≡_, refl, sym, ap, _∙_}
+use mathlib.Core.Path.{_≡_, refl, sym, _∙_}
 use mathlib.Core.Bool.{Bool, true, false}
 use mathlib.Core.List.{List}
 use Prim.Native.Nat.{ℕ, zero, suc, _+_, _-_, _*_, _/_, _%_, _≤_, _<_}
@@ -8,14 +8,12 @@ use native.Mathlib.Nat.{le-refl, mod-lt, mod-eq-of-lt, zero-lt-suc}
 use native.Mathlib.Omega.{arith}
 use borrow.Author.Tests.{ltb-true, ltb-false}
 use lib.Dec.{ltb}
-use lib.ListN.{length, getD, length-map, List·getD-eq-default}
-use Rattle.lists.specs.Lists.{range}
-use Rattle.lists.proofs.All.{length-range, getD-range}
-use Rattle.lists.proofs.Maps.{getD-map}
+use lib.ListN.{length, getD, List·getD-eq-default}
 use Rattle.packed.specs.Field.{bitAt, fieldAt, bytesFor, fillSet}
-use Rattle.packed.specs.inner.Encode.{number, bitIn, bytesOf}
+use Rattle.packed.specs.Encode.{number, bitIn, bytesOf}
 use Rattle.packed.proofs.Number.{number-ext, number-lt, number-digit}
 use Rattle.packed.proofs.Laws.{field-number}
+use Rattle.packed.proofs.Bytes.{length-bytesBy, byte-bytesBy}
 
 -- A bit of a list is 0 or 1.
 pub bitIn-lt : (bits : List ℕ) (i : ℕ) → bitIn bits i < 2
@@ -33,7 +31,7 @@ number-past bits at (suc w) h =
 -- As many bytes as the bits take.
 pub length-bytesOf : (bits : List ℕ) → length (bytesOf bits) ≡ bytesFor (length bits)
 unfolding bytesOf
-length-bytesOf bits = rw length-map (length-range (bytesFor (length bits)))
+length-bytesOf bits = length-bytesBy (bitIn bits) (bytesFor (length bits))
 
 -- Byte i is the number of the 8 bits from bit 8 i on.
 pub byte-bytesOf : (bits : List ℕ) (i : ℕ) → getD (bytesOf bits) i 0 ≡ number (bitIn bits) (8 * i) 8
@@ -41,9 +39,7 @@ unfolding bytesOf
 byte-bytesOf bits i = go (ltb i (bytesFor (length bits))) refl
   where
     go : (b : Bool) → ltb i (bytesFor (length bits)) ≡ b → getD (bytesOf bits) i 0 ≡ number (bitIn bits) (8 * i) 8
-    go true e =
-        getD-map _ (range (bytesFor (length bits))) i 0 0 (rw length-range (ltb-true _ _ e))
-        ∙ ap (λ (k : ℕ). number (bitIn bits) (8 * k) 8) (getD-range (bytesFor (length bits)) i (ltb-true _ _ e))
+    go true e = byte-bytesBy (bitIn bits) (bytesFor (length bits)) i (ltb-true _ _ e)
     go false e =
         List·getD-eq-default (bytesOf bits) 0 (rw length-bytesOf (ltb-false _ _ e)) ∙ sym (number-past bits (8 * i) 8 (omega (arith, ltb-false)))
 

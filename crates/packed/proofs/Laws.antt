@@ -7,7 +7,7 @@ use native.Mathlib.Nat.{mod-lt, zero-lt-suc}
 use native.Mathlib.Omega.{arith}
 use lib.ListN.{getD}
 use Rattle.packed.specs.Field.{bitAt, fieldAt}
-use Rattle.packed.specs.inner.Encode.{number}
+use Rattle.packed.specs.Encode.{number}
 use Rattle.packed.proofs.Number.{number-add, number-is, number-lt, number-high, number-low, number-part}
 
 -- A bit is 0 or 1.

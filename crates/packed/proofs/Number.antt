@@ -6,7 +6,7 @@ use native.Mathlib.Nat.{div-eq-of-lt, add-zero, add-suc, pow-suc}
 use native.Mathlib.Numerals.{add-one}
 use native.Mathlib.Omega.{arith}
 use lib.Pow.{shr-shr, high, low}
-use Rattle.packed.specs.inner.Encode.{number}
+use Rattle.packed.specs.Encode.{number}
 
 -- Equal digits make equal numbers.
 pub number-ext : (f g : ℕ → ℕ) (at from w : ℕ) → ((j : ℕ) → j < w → f (at + j) ≡ g (from + j)) → number f at w ≡ number g from w

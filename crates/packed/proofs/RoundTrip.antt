@@ -9,7 +9,7 @@ use lib.ListN.{length, getD, length-append, List·getD-append}
 use lib.Seq.{getD-append-add}
 use Rattle.lists.specs.Lists.{range}
 use Rattle.packed.specs.Field.{fieldAt}
-use Rattle.packed.specs.inner.Encode.{number, bitIn, bitsOf, bytesOf}
+use Rattle.packed.specs.Encode.{number, bitIn, bitsOf, bytesOf}
 use Rattle.packed.proofs.Number.{number-ext, number-is}
 use Rattle.packed.proofs.Encoded.{field-bytesOf}
 

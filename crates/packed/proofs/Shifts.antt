@@ -18,3 +18,7 @@ low-fits n w k h = lt-of-lt-of-le (mod-lt n (pow-pos w)) (pow-mono h)
 -- A word shifted by 8 takes one byte more.
 pub byte-joined : (n b : ℕ) → n < 2 ^ 56 → b < 256 → bitOr (n * 2 ^ 8 % 2 ^ 64) b ≡ n * 256 + b
 byte-joined n b hn hb = ap (λ (m : ℕ). bitOr m b) (shl-exact 56 8 64 hn (omega arith)) ∙ or-shifted n 8 b hb
+
+-- A number of w bits, shifted by k in a 64-bit word, loses none.
+pub shifted : (x w k : ℕ) → x < 2 ^ w → w + k ≤ 64 → x * 2 ^ k % 2 ^ 64 ≡ x * 2 ^ k
+shifted x w k h l = shl-exact w k 64 h l

@@ -1,2 +1,2 @@
--- Predicates of inner functions. How packed files are written: for the proof that every store has a file.
-pub mod Encode
+-- Predicates of inner functions. What the field writer leaves.
+pub mod Put

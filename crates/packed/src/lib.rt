@@ -1,4 +1,7 @@
-// The packed files' field reader. `specs/Field.antt` says what a field is, `proofs/` has the laws.
+// The packed files' field reader and writer. `specs/Field.antt` says what a field is, `proofs/` has the laws.
+mod put;
+
+pub use put::put_field;
 ghost use mathlib.Core.Path.{_≡_};
 ghost use Prim.Native.Nat.{_+_, _*_, _/_, _%_, _^_, _≤_, _<_};
 ghost use lib.ListN.{length, getD};

@@ -11,6 +11,7 @@ mod file;
 mod rules;
 
 use query::Query;
+pub use rules::ends;
 
 pub enum Operator {
     Scan(usize),

@@ -73,6 +73,9 @@ module _ (s : List ℕ) (ok : outsideLimits s ≡ false) where
   pub at-most-vertices : vertexCount s ≤ maxVertices
   at-most-vertices = leb-true (vertexCount s) maxVertices (and-r (leb minVertices (vertexCount s)) _ vertices-within)
 
+  pub at-least-edges : minEdges ≤ edgeCount s
+  at-least-edges = leb-true minEdges (edgeCount s) (and-r (leb minVertices (vertexCount s) && leb (vertexCount s) maxVertices) _ (and-l _ (leb (edgeCount s) maxEdges) within))
+
   pub at-most-edges : edgeCount s ≤ maxEdges
   at-most-edges = leb-true (edgeCount s) maxEdges (search (and-r, within))
 

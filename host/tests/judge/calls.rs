@@ -113,6 +113,37 @@ pub fn check_plan(r: &Random, query: &[u8], plan: &[u8]) -> (u32, u64) {
     (refusal, numbers.after(refusal)[0])
 }
 
+/// Draw plan into so many bytes, which hold arbitrary ones: the refusal and the plan. The bytes past it stay.
+pub fn draw_plan(r: &Random, store: &[u32], query: &[u8], room: usize) -> (u32, Vec<u8>) {
+    let (store, query) = (words(r, store), bytes(r, query));
+    let contents: Vec<u8> = (0..room).map(|_| r.next() as u8).collect();
+    let mut plan = bytes(r, &contents);
+    let mut numbers = Numbers::<1>::new(r);
+    let [length] = numbers.pointers();
+    // SAFETY: as above.
+    let refusal = unsafe {
+        sys::trace_draw_plan(
+            store.pointer(),
+            store.len(),
+            query.pointer(),
+            query.len(),
+            plan.pointer_mut(),
+            plan.len(),
+            length,
+        )
+    };
+    store.assert_untouched("store");
+    query.assert_untouched("query");
+    if refusal != 0 {
+        plan.assert_untouched("plan");
+    }
+    let mut after = plan.contents("plan");
+    let [length] = numbers.after(refusal);
+    assert_eq!(after[length as usize..], contents[length as usize..], "bytes past the plan are changed");
+    after.truncate(length as usize);
+    (refusal, after)
+}
+
 pub struct Input<'a> {
     pub store: &'a [u32],
     pub query: &'a [u8],

@@ -77,6 +77,17 @@ fn a_missing_section_leaves_its_file() {
     assert_eq!(told(unpack(&dir, &["."])), says(0, &text, ""));
 }
 
+/// A pattern for which the engine draws the plan.
+#[test]
+fn a_text_without_a_plan() {
+    let dir = folder("no_plan");
+    let text = &TEXT[..TEXT.find("[plan]").unwrap()];
+    fs::write(dir.join("hang.txt"), text).unwrap();
+    assert_eq!(told(pack(&dir, &["hang.txt"])), says(0, "", ""));
+    assert!(dir.join("q.bin").exists() && !dir.join("p.bin").exists());
+    assert_eq!(told(unpack(&dir, &["."])), says(0, text, ""));
+}
+
 #[test]
 fn bad_text_has_a_line_and_changes_no_file() {
     let dir = folder("bad");

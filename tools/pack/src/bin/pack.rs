@@ -13,6 +13,7 @@ usage: pack FILE [DIR], or pack --help
 
 Packs the text FILE into g.bin, q.bin and p.bin in DIR, by default the folder of FILE.
 The text has up to three sections; the file of a section that is missing is left as it is.
+Without [plan] a plan can be drawn by the engine, from C or Rust.
 
     # A comment runs to the end of its line.
     [graph]

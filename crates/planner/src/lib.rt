@@ -1,0 +1,62 @@
+// Drawing a plan: from a store and a query to a packed plan of one scan and n - 2 extends. `specs/` says which plan it is and when it is
+// refused, `proofs/` that it passes the plan check.
+mod order;
+mod pack;
+
+use query::Query;
+ghost use mathlib.Core.Path.{_≡_};
+ghost use lib.ListN.{length};
+ghost use Rattle.graph.specs.Store.{graphIn, storeFault};
+ghost use Rattle.query.specs.inner.Struct.{queryIn};
+ghost use Rattle.planner.specs.Draw.{drawAnswer, drawBytes};
+ghost use Rattle.planner.specs.Complete.{PassesCheck};
+ghost use Rattle.planner.specs.inner.Parts.{Drawable, Drawn};
+
+// What drawing a plan answers: a refusal with 0, or 0 with the plan's length in bytes.
+pub struct DrawAnswer {
+    pub refusal: u32,
+    pub bytes: usize,
+}
+
+impl DrawAnswer {
+    fn refused(refusal: u32) -> Self
+        ensures { λ r. ⌜ r ≡ record { refusal = refusal; bytes = 0 } ⌝ }
+    {
+        DrawAnswer { refusal, bytes: 0 }
+    }
+}
+
+// Draws the plan of a query that was read over an accepted store: 23, 24, or the plan.
+fn draw_accepted(store: &[u32], q: Query, plan: &mut [u8]) -> DrawAnswer
+    requires { ⌜ Drawable q × (storeFault (now store) ≡ 0) ⌝ }
+    ensures { λ r. ⌜ Drawn (graphIn (now (store .entry))) (queryIn q) (now (plan .entry)) (now (plan .exit)) r ⌝ }
+{
+    let edge = order::scan_edge(q, &order::edge_counts(store));
+    let fault = order::stuck_fault(q, plan::ends(q.edge(edge)));
+    if fault != 0 {
+        return DrawAnswer::refused(fault);
+    }
+    let bytes = pack::plan_bytes(q.vertices);
+    if plan.len() < bytes {
+        return DrawAnswer::refused(24);
+    }
+    pack::put_plan(q, edge, plan);
+    DrawAnswer { refusal: 0, bytes }
+}
+
+// Draws a plan.
+pub fn draw_plan(store: &[u32], query: &[u8], plan: &mut [u8]) -> DrawAnswer
+    ensures answer { λ r. ⌜ r ≡ drawAnswer (now (store .entry)) (now (query .entry)) (length (now (plan .entry))) ⌝ }
+    ensures bytes { λ _. ⌜ now (plan .exit) ≡ drawBytes (now (store .entry)) (now (query .entry)) (now (plan .entry)) ⌝ }
+    ensures checked { λ r. ⌜ PassesCheck (now (store .entry)) (now (query .entry)) r (now (plan .exit)) ⌝ }
+{
+    let fault = query::query_fault(query);
+    if fault != 0 {
+        return DrawAnswer::refused(fault);
+    }
+    let fault = store::store_fault(store);
+    if fault != 0 {
+        return DrawAnswer::refused(fault);
+    }
+    draw_accepted(store, Query::of_file(query), plan)
+}
