@@ -22,6 +22,7 @@ impl Graph {
     pub const MAX_EDGES: usize = 1048575;
 
     pub const MAX_VERTEX_LABEL: u32 = 65535;
+
     pub const MAX_DAY: u32 = 65535;
     // Edge labels are 1 to this.
     pub const MAX_EDGE_LABEL: usize = 255;
