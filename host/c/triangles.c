@@ -5,17 +5,21 @@
 
 #include "trace.h"
 
-/* Edges of label 1: 0->1, 0->2, 1->2, 1->3, 2->3. */
+/* Four vertices without label or day; edges of label 1: 0->1, 0->2, 1->2, 1->3, 2->3. */
 static const uint8_t graph[] = {
-    0x00, 0x04, 0x00, 0x00, 0x50, 0x00, 0x00, 0x00, 0x00, 0x00, 0x00, 0x00, 0x00, 0x00, 0x00, 0x10, 0x00, 0x10, 0x00, 0x00,
-    0x10, 0x00, 0x20, 0x00, 0x10, 0x10, 0x00, 0x20, 0x00, 0x10, 0x10, 0x00, 0x30, 0x00, 0x20, 0x10, 0x00, 0x30,
+    0x00, 0x04, 0x00, 0x00, 0x50, 0x00, 0x00, 0x00, 0x00, 0x00, 0x00, 0x00, 0x00, 0x00, 0x00, 0x00, 0x00, 0x00, 0x00, 0x00,
+    0x00, 0x00, 0x00, 0x10, 0x00, 0x10, 0x00, 0x00, 0x10, 0x00, 0x20, 0x00, 0x10, 0x10, 0x00, 0x20, 0x00, 0x10, 0x10, 0x00,
+    0x30, 0x00, 0x20, 0x10, 0x00, 0x30,
 };
 
-/* The triangle 0->1, 0->2, 1->2; scan edge 0, extend by vertex 2. */
-static const uint8_t query[] = {0x31, 0x80, 0x00, 0x00, 0x00, 0x00, 0x00, 0x02, 0x02, 0x10, 0x09, 0x40, 0x20};
+/* The triangle 0->1, 0->2, 1->2, of items of any label and day; scan edge 0, extend by vertex 2. */
+static const uint8_t query[] = {
+    0x31, 0x80, 0x00, 0x00, 0x00, 0x7f, 0xff, 0x80, 0x00, 0x00, 0x00, 0x7f, 0xff, 0x80, 0x00, 0x00, 0x00, 0x7f, 0xff, 0x82,
+    0x02, 0x10, 0x09, 0x40, 0x20,
+};
 static const uint8_t plan[] = {0x10, 0x05, 0x00};
 
-static uint32_t store[26], scratch[17], list[6];
+static uint32_t store[30], scratch[17], list[6];
 static struct trace_record records[2];
 
 /* The layout that the library was compiled with. */
@@ -25,11 +29,11 @@ _Static_assert(offsetof(struct trace_record, rows) == 0 && offsetof(struct trace
 int main(void)
 {
     uint64_t vertices, edges, operators, rows, cost, build, probe;
-    uint32_t refusal = trace_load(graph, sizeof graph, store, 26, &vertices, &edges);
+    uint32_t refusal = trace_load(graph, sizeof graph, store, 30, &vertices, &edges);
     if (refusal == 0)
         refusal = trace_check_plan(query, sizeof query, plan, sizeof plan, &operators);
     if (refusal == 0)
-        refusal = trace_run(store, 26, query, sizeof query, plan, sizeof plan, true, scratch, 17, list, 6, records, 2,
+        refusal = trace_run(store, 30, query, sizeof query, plan, sizeof plan, true, scratch, 17, list, 6, records, 2,
                             &rows, &cost, &build, &probe);
     if (refusal != 0) {
         printf("refused %" PRIu32 "\n", refusal);
@@ -43,16 +47,16 @@ int main(void)
     for (uint64_t i = 0; i < operators; i++)
         printf("operator %" PRIu64 ": rows %" PRIu64 " cost %" PRIu64 "\n", i, records[i].rows, records[i].cost);
 
-    refusal = trace_run(store, 26, query, sizeof query, plan, sizeof plan, true, scratch, 16, list, 6, records, 2,
+    refusal = trace_run(store, 30, query, sizeof query, plan, sizeof plan, true, scratch, 16, list, 6, records, 2,
                         &rows, &cost, &build, &probe);
     printf("with 16 words of scratch: %s, rows %" PRIu64 "\n", refusal == TRACE_SCRATCH_SMALL ? "refused 20" : "accepted", rows);
-    refusal = trace_run(store, 26, query, sizeof query, plan, sizeof plan, true, scratch, 16, list, 6, records, 1,
+    refusal = trace_run(store, 30, query, sizeof query, plan, sizeof plan, true, scratch, 16, list, 6, records, 1,
                         &rows, &cost, &build, &probe);
     printf("with 1 record: %s, rows %" PRIu64 "\n", refusal == TRACE_RECORDS_SHORT ? "refused 22" : "accepted", rows);
 
     uint8_t drawn[6];
     uint64_t bytes;
-    refusal = trace_draw_plan(store, 26, query, sizeof query, drawn, sizeof drawn, &bytes);
+    refusal = trace_draw_plan(store, 30, query, sizeof query, drawn, sizeof drawn, &bytes);
     printf("drawn: refusal %" PRIu32 ", %" PRIu64 " bytes:", refusal, bytes);
     for (uint64_t i = 0; i < bytes; i++)
         printf(" %02x", (unsigned)drawn[i]);

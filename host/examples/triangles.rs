@@ -29,7 +29,11 @@ fn wheel(rim: usize) -> Vec<u8> {
     let mut file = Packer::default();
     file.put(rim + 1, 16);
     file.put(edges.len(), 20);
-    (0..=rim).for_each(|_| file.put(0, 16));
+    for _ in 0..=rim {
+        // Label and inspection day: none.
+        file.put(0, 16);
+        file.put(0, 16);
+    }
     for [source, label, target] in edges {
         file.put(source, 16);
         file.put(label, 8);
@@ -42,8 +46,11 @@ fn main() -> Result<(), Box<dyn std::error::Error>> {
     let rim = std::env::args().nth(1).map_or(Ok(1000), |word| word.parse())?;
     let store = Store::load(&wheel(rim))?;
 
-    // 0→1, 0→2, 1→2, all of label 1; scan edge 0, extend by vertex 2.
-    let query = [0x31, 0x80, 0, 0, 0, 0, 0, 0x02, 0x02, 0x10, 0x09, 0x40, 0x20];
+    // 0→1, 0→2, 1→2, all of label 1, of items of any label and day; scan edge 0, extend by vertex 2.
+    let query = [
+        0x31, 0x80, 0x00, 0x00, 0x00, 0x7f, 0xff, 0x80, 0x00, 0x00, 0x00, 0x7f, 0xff, 0x80, 0x00, 0x00, 0x00, 0x7f,
+        0xff, 0x82, 0x02, 0x10, 0x09, 0x40, 0x20,
+    ];
     let plan = [0x10, 0x05, 0x00];
     println!("the plan has {} operators", trace::check_plan(&query, &plan)?);
 

@@ -50,10 +50,11 @@ refusals! {
     RecordsShort = 22, "the list of records is shorter than the plan's operators";
     PlanStuck = 23, "no uncovered query vertex has an edge to the covered ones";
     PlanBytes = 24, "the bytes of the drawn plan do not fit";
+    QueryDays = 25, "a vertex of the query has a first day above its last";
 }
 
 impl Refusal {
-    /// Its number, 1 to 24.
+    /// Its number, 1 to 25.
     pub fn number(self) -> u32 {
         self as u32
     }
@@ -77,11 +78,11 @@ mod tests {
     use super::Refusal;
 
     #[test]
-    fn numbers_are_1_to_24_in_order() {
+    fn numbers_are_1_to_25_in_order() {
         let numbers: Vec<u32> = Refusal::ALL.iter().map(|r| r.number()).collect();
-        assert_eq!(numbers, (1..=24).collect::<Vec<_>>());
+        assert_eq!(numbers, (1..=25).collect::<Vec<_>>());
         assert_eq!(Refusal::from_number(20), Some(Refusal::ScratchSmall));
         assert_eq!(Refusal::from_number(0), None);
-        assert_eq!(Refusal::from_number(25), None);
+        assert_eq!(Refusal::from_number(26), None);
     }
 }

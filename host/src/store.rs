@@ -9,17 +9,17 @@ pub struct Store {
     words: Vec<u32>,
 }
 
-/// How many words the store of a graph file needs: 3 N + 2 M + 4, by the file's first 36 bits. A file too short to have them is
+/// How many words the store of a graph file needs: 4 N + 2 M + 4, by the file's first 36 bits. A file too short to have them is
 /// refused, whatever the store.
 fn words_for(file: &[u8]) -> usize {
     let Some(head) = file.first_chunk::<5>() else { return 0 };
     let [a, b, c, d, e] = head.map(usize::from);
     let vertices = a << 8 | b;
     let edges = c << 12 | d << 4 | e >> 4;
-    if file.len() < 5 + 2 * vertices + 5 * edges {
+    if file.len() < 5 + 4 * vertices + 5 * edges {
         return 0;
     }
-    3 * vertices + 2 * edges + 4
+    4 * vertices + 2 * edges + 4
 }
 
 impl Store {

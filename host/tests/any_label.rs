@@ -149,12 +149,14 @@ fn pair(query: &Query, edge: usize) -> (usize, usize) {
 
 /// The query with one label for every edge.
 fn relabelled(query: &Query, label: u8) -> Query {
-    Query::new(query.labels.clone(), query.edges.iter().map(|&(a, b, _)| (a, b, label)).collect())
+    let edges = query.edges.iter().map(|&(a, b, _)| (a, b, label)).collect();
+    Query::new(query.labels.clone(), edges).inspected(&query.days)
 }
 
 /// The graph with label 1 for every edge.
 fn of_one_label(graph: &Graph) -> Graph {
-    Graph::new(graph.labels.clone(), graph.edges.iter().map(|&(s, _, t)| (s, 1, t)).collect())
+    let edges = graph.edges.iter().map(|&(s, _, t)| (s, 1, t)).collect();
+    Graph::new(graph.labels.clone(), edges).dated(graph.days.clone())
 }
 
 /// Where a graph has one label, that label and any label are the same, in cost too.
@@ -178,7 +180,7 @@ fn labels_forgotten() {
 fn any_label_beside_a_label() {
     let twins = |graph: Graph, query: Query| {
         let more = query.edges.iter().flat_map(|&(a, b, label)| [(a, b, label), (a, b, 0)]).collect();
-        let more = Query::new(query.labels.clone(), more);
+        let more = Query::new(query.labels.clone(), more).inspected(&query.days);
         let more = if more.edges.len() <= 24 { more } else { query.clone() };
         [(graph.clone(), query), (graph, more)]
     };

@@ -3,7 +3,7 @@ mod judge;
 
 use judge::calls;
 use judge::plan;
-use judge::query::{Query, QueryEdge};
+use judge::query::{Query, QueryEdge, EVER};
 use judge::random::{each, Random};
 
 /// Compares the answer; answers the refusal.
@@ -20,7 +20,8 @@ fn compare(r: &Random, query: &[u8], plan: &[u8]) -> u32 {
 /// A query whose parts are not what they should be.
 fn disturb(r: &Random, query: &mut Query) {
     let at = r.below(query.edges.len());
-    match r.below(6) {
+    let v = r.below(query.vertices());
+    match r.below(8) {
         0 => query.edges[at].2 = 0,
         1 => query.edges[at].1 = query.edges[at].0,
         2 => query.edges[at].0 = r.below(8),
@@ -29,13 +30,19 @@ fn disturb(r: &Random, query: &mut Query) {
             query.edges.swap(at, other);
         }
         4 => drop(query.edges.remove(at)),
-        _ => query.labels.resize(r.below(10), 0),
+        5 => {
+            let n = r.below(10);
+            query.labels.resize(n, 0);
+            query.days.resize(n, EVER);
+        }
+        6 => query.days[v] = (r.day(), r.day()),
+        _ => query.days[v].0 = query.days[v].1.wrapping_add(1),
     }
 }
 
 #[test]
 fn random_queries_and_plans_valid_and_damaged() {
-    let mut seen = [0; 19];
+    let mut seen = [0; 26];
     each(0..60_000, |r| {
         let mut query = Query::random(r, 8);
         let mut operators = plan::random(r, &query);
@@ -55,7 +62,7 @@ fn random_queries_and_plans_valid_and_damaged() {
         }
         seen[compare(r, &query, &plan) as usize] += 1;
     });
-    assert!((6..19).chain([0]).all(|k| seen[k] > 50), "each answer is met often: {seen:?}");
+    assert!((6..19).chain([0, 25]).all(|k| seen[k] > 50), "each answer is met often: {seen:?}");
 }
 
 #[test]
@@ -93,7 +100,7 @@ fn limits_of_a_query() {
         {
             for label in [1, 0, 255] {
                 let edges = pairs.iter().take(m).map(|&(a, b)| (a, b, label)).collect();
-                let query = Query { labels: vec![0; n], edges };
+                let query = Query::as_given(vec![0; n], edges);
                 assert_eq!(compare(r, &query.file(), &plan), want, "{n} vertices, {m} edges of label {label}");
             }
         }
@@ -106,7 +113,7 @@ fn labels_of_query_edges() {
     each(0..1, |r| {
         let plan = plan::file(&[plan::Operator::Scan(0)]);
         for (one, two) in (0..=255).flat_map(|one| [0, 1, 2, 254, 255].map(|two| (one, two))) {
-            let query = |edges: &[QueryEdge]| Query { labels: vec![0; 2], edges: edges.to_vec() }.file();
+            let query = |edges: &[QueryEdge]| Query::as_given(vec![0; 2], edges.to_vec()).file();
             assert_eq!(compare(r, &query(&[(0, 1, one)]), &plan), 0, "{one}");
             let want = if one < two { 0 } else { 10 };
             assert_eq!(compare(r, &query(&[(0, 1, one), (0, 1, two)]), &plan), want, "{one}, {two}");
@@ -115,6 +122,55 @@ fn labels_of_query_edges() {
             assert_eq!(compare(r, &query(&[(7, 0, one)]), &plan), 9, "{one}");
         }
     });
+}
+
+/// A first day above the last one is refused after the lengths, and before any fault of an edge; equal days stand.
+#[test]
+fn days_of_query_vertices() {
+    each(0..1, |r| {
+        let plan = plan::file(&[plan::Operator::Scan(0)]);
+        for days in [(0, 0), (0, 65_535), (7, 7), (7, 8), (65_535, 65_535)] {
+            let query = Query::plain(2, &[(0, 1)]).inspected(&[days, (3, 3)]);
+            assert_eq!(compare(r, &query.file(), &plan), 0, "{days:?}");
+        }
+        let faulty: [(u32, &[QueryEdge]); 6] = [
+            (18, &[(0, 1, 1), (1, 2, 1)]),
+            (9, &[(1, 1, 1), (1, 2, 1)]),
+            (9, &[(0, 7, 1), (1, 2, 1)]),
+            (10, &[(1, 2, 1), (0, 1, 1)]),
+            (10, &[(0, 1, 1), (0, 1, 1)]),
+            (11, &[(0, 1, 1), (1, 0, 1)]),
+        ];
+        for (fault, edges) in faulty {
+            let query = Query::as_given(vec![0; 3], edges.to_vec());
+            assert_eq!(compare(r, &query.file(), &plan), fault, "{query:?}");
+            for (v, days) in [(0, (1, 0)), (1, (8, 7)), (2, (65_535, 65_534)), (2, (65_535, 0))] {
+                let mut query = query.clone();
+                query.days[v] = days;
+                late(r, &query.file(), &plan);
+            }
+        }
+    });
+}
+
+/// The file of three vertices, one of which has a first day above its last, and of two edges.
+fn late(r: &Random, file: &[u8], plan: &[u8]) {
+    assert_eq!(compare(r, file, plan), 25, "{file:02x?}");
+    assert_eq!(compare(r, file, &[]), 25, "{file:02x?}");
+    for length in 0..file.len() {
+        assert_eq!(compare(r, &file[..length], plan), 6, "{file:02x?}, {length} bytes");
+    }
+    assert_eq!(compare(r, &[file, &[0]].concat(), plan), 7, "{file:02x?}");
+    // 9 + 3 × 48 + 2 × 14 bits: three are left.
+    for bit in 0..3 {
+        let mut file = file.to_vec();
+        *file.last_mut().unwrap() |= 1 << bit;
+        assert_eq!(compare(r, &file, plan), 7, "{file:02x?}");
+    }
+    // Nine vertices, and none.
+    for first in [0x91, 0x01] {
+        assert_eq!(compare(r, &[&[first], &file[1..]].concat(), plan), 8, "{file:02x?}");
+    }
 }
 
 #[test]

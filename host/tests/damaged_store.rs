@@ -5,13 +5,14 @@ use judge::calls::{self, Input};
 use judge::graph::{words_of, Graph};
 use judge::matcher::Matcher;
 use judge::plan::{self, Operator};
-use judge::query::Query;
+use judge::query::{Query, EVER};
 use judge::random::{each, Random};
 use judge::rules;
 
 /// Runs over these words with all the room it needs; answers whether they were accepted.
 fn compare(r: &Random, words: &[u32]) -> bool {
-    let query = Query::plain(3, &[(0, 1), (1, 2)]);
+    let days = [EVER, (0, 3), (1, 65_534)][r.below(3)];
+    let query = Query::plain(3, &[(0, 1), (1, 2)]).inspected(&[EVER, days, EVER]);
     let operators = [Operator::Scan(0), Operator::Extend(2)];
     let (file, plan) = (query.file(), plan::file(&operators));
     let input = Input { store: words, query: &file, plan: &plan, cache: false };
@@ -93,12 +94,12 @@ fn sides_that_do_not_mirror() {
             1 => edge.0 = r.below(n) as u16,
             _ => edge.2 = r.below(n) as u16,
         }
-        let other = Graph::new(one.labels.clone(), edges);
+        let other = Graph::new(one.labels.clone(), edges).dated(one.days.clone());
         if other.edges.len() < m || other.edges == one.edges {
             return;
         }
         let mut store = one.store();
-        let backward = 3 + 2 * n + m;
+        let backward = 3 + 3 * n + m;
         store[backward..].copy_from_slice(&other.store()[backward..]);
         assert!(!compare(r, &store));
         refused += 1;
@@ -106,28 +107,46 @@ fn sides_that_do_not_mirror() {
     assert!(refused > 5_000, "{refused}");
 }
 
-/// Sides that mirror each other, of a graph that no file can hold: a label 0 or above 255, an edge twice, a vertex label above
+/// Sides that mirror each other, of a graph that no file can hold: a label 0 or above 255, an edge twice, a vertex label or a day above
 /// 65,535.
 #[test]
 fn mirrored_damage() {
     let mut seen = [0; 2];
     each(0..20_000, |r| {
         let graph = Graph::random(r, 6);
-        let mut labels: Vec<u32> = graph.labels.iter().map(|&l| l.into()).collect();
-        let mut edges: Vec<[u32; 3]> = graph.edges.iter().map(|&(s, l, t)| [s.into(), l.into(), t.into()]).collect();
+        let (mut labels, mut days, mut edges) = graph.numbers();
         if edges.is_empty() {
             return;
         }
         let at = r.below(edges.len());
-        match r.below(4) {
+        match r.below(5) {
             0 => edges[at][1] = [0, 255, 256, 257, 65_535][r.below(5)],
             1 => edges.push(edges[at]),
             2 => labels[r.below(graph.vertices())] = [65_535, 65_536, u32::MAX][r.below(3)],
+            3 => days[r.below(graph.vertices())] = [65_535, 65_536, u32::MAX][r.below(3)],
             _ => (),
         }
-        seen[usize::from(compare(r, &words_of(&labels, &edges)))] += 1;
+        seen[usize::from(compare(r, &words_of(&labels, &days, &edges)))] += 1;
     });
     assert!(seen.iter().all(|&count| count > 3_000), "{seen:?}");
+}
+
+/// Each label and each day of a store at its limit and one beyond: 65,535 stands, 65,536 is refused.
+#[test]
+fn labels_and_days_at_their_limits() {
+    each(0..40, |r| {
+        let graph = Graph::random(r, 6);
+        let store = graph.store();
+        for at in 2..2 + 2 * graph.vertices() {
+            for (word, accepted) in
+                [(0, true), (65_535, true), (65_536, false), (65_537, false), (131_071, false), (u32::MAX, false)]
+            {
+                let mut store = store.clone();
+                store[at] = word;
+                assert_eq!(compare(r, &store), accepted, "{word} in word {at} of {store:?}");
+            }
+        }
+    });
 }
 
 /// Counts at their limits and one beyond.
@@ -138,7 +157,7 @@ fn counts_at_their_limits() {
             [(65_535, 2, true), (65_536, 2, false), (3_000, 1_048_575, true), (3_000, 1_048_576, false)]
         {
             let edges: Vec<[u32; 3]> = (0..m).map(|i| [i / 1_000, 1 + i % 100, 1 + i % 1_000 / 100]).collect();
-            let words = words_of(&vec![0; n], &edges);
+            let words = words_of(&vec![0; n], &vec![0; n], &edges);
             let (query, plan) = (Query::plain(2, &[(0, 1)]).file(), plan::file(&[Operator::Scan(0)]));
             let input = Input { store: &words, query: &query, plan: &plan, cache: false };
             assert_eq!(calls::run(r, &input, 0, 0).refusal, if accepted { 20 } else { 19 }, "{n} vertices, {m} edges");

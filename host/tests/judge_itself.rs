@@ -3,7 +3,7 @@ mod judge;
 
 use judge::graph::Graph;
 use judge::matcher::Matcher;
-use judge::query::Query;
+use judge::query::{Query, EVER};
 use judge::random::each;
 use judge::{in_words, plan, rules};
 use std::collections::BTreeMap;
@@ -11,8 +11,8 @@ use std::collections::BTreeMap;
 /// Rows, order, cost, sums and need are those that the rules' own words give.
 #[test]
 fn the_rules_in_words() {
-    let (mut rows, mut joins, mut any) = (0, 0, 0);
-    each(0..20_000, |r| {
+    let [mut rows, mut joins, mut any, mut inspected] = [0; 4];
+    each(0..40_000, |r| {
         let (graph, query) = (Graph::random(r, 6), Query::random(r, 4));
         let plan = plan::random(r, &query);
         let cache = r.chance(1, 2);
@@ -21,14 +21,20 @@ fn the_rules_in_words() {
         rows += answer.count;
         joins += usize::from(answer.build > 0 && answer.probe > 0);
         any += usize::from(answer.count > 0 && query.edges.iter().any(|edge| edge.2 == 0));
+        let every = Query { days: vec![EVER; query.vertices()], ..query };
+        let without = in_words::run(&graph, &every, &plan, cache).count;
+        inspected += usize::from(0 < answer.count && answer.count < without);
     });
     assert!(rows > 15_000 && joins > 500 && any > 1_000, "{rows} rows, {joins} joins, {any} with rows and label 0");
+    assert!(inspected > 200, "{inspected} in which days leave some rows and not all");
 }
 
-/// The random queries of the tests: without label 0, with it beside other labels, with nothing else, and with both between one pair.
+/// The random queries of the tests: without label 0, with it beside other labels, with nothing else, and with both between one pair;
+/// with ranges of days, some of one day, some that begin at 0 or end at 65,535 and not both.
 #[test]
 fn the_mix_of_queries() {
     let [mut none, mut some, mut all, mut beside] = [0; 4];
+    let [mut asked, mut one_day, mut open] = [0; 3];
     each(0..10_000, |r| {
         let query = Query::random(r, 8);
         assert_eq!(Query::read(&query.file()).as_ref(), Ok(&query));
@@ -39,14 +45,19 @@ fn the_mix_of_queries() {
         }
         let both = |pair: &[(usize, usize, u8)]| pair[0].2 == 0 && (pair[0].0, pair[0].1) == (pair[1].0, pair[1].1);
         beside += usize::from(query.edges.windows(2).any(both));
+        asked += usize::from(query.days.iter().any(|&days| days != EVER));
+        one_day += usize::from(query.days.iter().any(|(first, last)| first == last));
+        open += usize::from(query.days.iter().any(|&(first, last)| (first == 0) != (last == 65_535)));
     });
     assert!(none > 4_000 && some > 3_000 && all > 300 && beside > 1_500, "{none}, {some}, {all}, {beside}");
+    assert!(asked > 2_000 && one_day > 500 && open > 1_000, "{asked}, {one_day}, {open}");
 }
 
-/// The random graphs of the tests: with several labels between a pair, with many, and with lists that do not ascend by vertex.
+/// The random graphs of the tests: with several labels between a pair, with many, and with lists that do not ascend by vertex; without
+/// days, and with items that have one beside others that have none.
 #[test]
 fn the_mix_of_graphs() {
-    let [mut several, mut many, mut not_ascending] = [0; 3];
+    let [mut several, mut many, mut not_ascending, mut undated, mut mixed] = [0; 5];
     each(0..10_000, |r| {
         let graph = Graph::random(r, 9);
         assert_eq!(Graph::read(&graph.file()).as_ref(), Ok(&graph));
@@ -58,6 +69,10 @@ fn the_mix_of_graphs() {
         several += usize::from(pairs.values().any(|&labels| labels > 1));
         many += usize::from(pairs.values().any(|&labels| labels > 20));
         not_ascending += usize::from(lists.values().any(|list| list.windows(2).any(|pair| pair[0] > pair[1])));
+        let (dated, no_day) = (graph.days.iter().any(|&day| day > 0), graph.days.contains(&0));
+        undated += usize::from(!dated);
+        mixed += usize::from(dated && no_day);
     });
     assert!(several > 4_000 && many > 400 && not_ascending > 4_000, "{several}, {many}, {not_ascending}");
+    assert!(undated > 2_000 && mixed > 2_000, "{undated}, {mixed}");
 }

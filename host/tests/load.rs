@@ -88,8 +88,8 @@ fn the_largest_counts() {
         while edges.len() < (1 << 20) - 1 {
             edges.insert((r.below(n) as u16, 1 + r.below(255) as u8, r.below(n) as u16));
         }
-        let labels = (0..n).map(|_| r.next() as u16).collect();
-        let graph = Graph::new(labels, edges.into_iter().collect());
+        let numbers = || (0..n).map(|_| r.next() as u16).collect();
+        let graph = Graph::new(numbers(), edges.into_iter().collect()).dated(numbers());
         assert_eq!(compare(r, &graph.file(), graph.store_size() + 3), 0);
         assert_eq!(compare(r, &graph.file(), graph.store_size() - 1), 5);
     });

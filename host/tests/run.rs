@@ -75,7 +75,7 @@ impl Case {
 #[test]
 fn small_graphs() {
     let (mut rows, mut joins, mut skipped) = (0, 0, 0);
-    each(0..20_000, |r| {
+    each(0..32_000, |r| {
         let graph = Graph::random(r, 12);
         match Case::random(r, graph, 8, 3_000) {
             Some(case) => {
@@ -172,7 +172,7 @@ fn every_number_of_records() {
 /// Damaged queries and plans are refused as Check plan refuses them, before the records are counted and the store is looked at.
 #[test]
 fn refused_files() {
-    let mut seen = [0; 23];
+    let mut seen = [0; 26];
     each(0..10_000, |r| {
         let query = Query::random(r, 6);
         let mut operators = plan::random(r, &query);

@@ -26,9 +26,11 @@ fn the_worked_files() {
             text.bytes().filter(|b| *b != b' ').map(|b| (b as char).to_digit(16).unwrap() as u8).collect();
         digits.chunks(2).map(|pair| pair[0] * 16 + pair[1]).collect()
     };
-    let file = "0004 00005 0000000000000000 0000010001 0000010002 0001010002 0001010003 0002010003 0";
+    let file =
+        "0004 00005 00000000 00000000 00000000 00000000 0000010001 0000010002 0001010002 0001010003 0002010003 0";
     assert_eq!(g().file(), hex(file));
-    assert_eq!(triangle().file(), hex("31 80 00 00 00 00 00 02 02 10 09 40 20"));
+    let file = "31 80 00 00 00 7f ff 80 00 00 00 7f ff 80 00 00 00 7f ff 82 02 10 09 40 20";
+    assert_eq!(triangle().file(), hex(file));
     assert_eq!(plan::file(&[Scan(0), Extend(2)]), hex("10 05 00"));
 }
 
@@ -76,16 +78,14 @@ fn the_worked_lengths() {
     }
     let bushy = plan::file(&[Scan(2), Extend(0), Scan(2), Extend(3), Join]);
     let run = |cache, scratch: usize| {
-        store
-            .run(&diamond().file(), &bushy, cache, &mut vec![1; scratch], &mut [1; 4], &mut [MARK; 5])
-            .map(|m| m.len())
+        store.run(&diamond().file(), &bushy, cache, &mut vec![1; scratch], &mut [1; 4], &mut [MARK; 5]).map(|m| m.len())
     };
     for (cache, need) in [(Cache::Off, 22), (Cache::On, 23)] {
         assert_eq!(run(cache, need), Ok(1));
         assert_eq!(run(cache, need - 1), Err(Refusal::ScratchSmall));
     }
-    assert_eq!(trace::load_into(&g().file(), &mut [0; 26]), Ok(trace::Loaded { vertices: 4, edges: 5 }));
-    assert_eq!(trace::load_into(&g().file(), &mut [0; 25]), Err(Refusal::StoreSmall));
+    assert_eq!(trace::load_into(&g().file(), &mut [0; 30]), Ok(trace::Loaded { vertices: 4, edges: 5 }));
+    assert_eq!(trace::load_into(&g().file(), &mut [0; 29]), Err(Refusal::StoreSmall));
     assert_eq!(trace::check_plan(&query, &plan), Ok(2));
     assert_eq!(trace::check_plan(&query, &plan[..2]), Err(Refusal::PlanShort));
 }
@@ -138,7 +138,7 @@ fn a_store_owns_its_words() {
     assert_eq!(store.words(), g().store());
     let mut words = store.clone().into_words();
     assert_eq!(Store::from_words(words.clone()), store);
-    words[7] += 1;
+    words[11] += 1;
     let damaged = Store::from_words(words);
     let plan = plan::file(&[Scan(0), Extend(2)]);
     let mut buffers = Buffers::with_words(64, 64);

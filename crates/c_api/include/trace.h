@@ -14,9 +14,10 @@
  *
  * The three files are packed bit by bit, most significant first, and zero bits fill the last byte:
  *
- *   graph  N (16 bits), M (20), N vertex labels (16), M edges of source (16), label (8), target (16), strictly ascending;
- *   query  n (4 bits, 2 to 8), m (5, 1 to 24), n vertex labels (16, 0 fits all), m edges of from (3), to (3), label (8,
- *          0 is any label);
+ *   graph  N (16 bits), M (20), N vertices of label (16), inspection day (16, days since 1 January 2000, 0 for none), M edges of
+ *          source (16), label (8), target (16), strictly ascending;
+ *   query  n (4 bits, 2 to 8), m (5, 1 to 24), n vertices of label (16, 0 fits all), first day (16), last day (16), both inclusive,
+ *          m edges of from (3), to (3), label (8, 0 is any label), strictly ascending;
  *   plan   operator count (5 bits), then operators of a kind (2 bits): 0 scan of a query edge's index (5), 1 extend by a query
  *          vertex (3), 2 join.
  */
@@ -37,7 +38,7 @@ enum trace_refusal {
     TRACE_GRAPH_LONG = 2,           /* it is longer than its own size, or a fill bit is set */
     TRACE_GRAPH_EDGE = 3,           /* an edge has a vertex outside 0 to N - 1, or label 0 */
     TRACE_GRAPH_ORDER = 4,          /* the edges do not ascend strictly */
-    TRACE_STORE_SMALL = 5,          /* the store is shorter than 3 N + 2 M + 4 words */
+    TRACE_STORE_SMALL = 5,          /* the store is shorter than 4 N + 2 M + 4 words */
     TRACE_QUERY_SHORT = 6,          /* the query file is shorter than 2 bytes or than its own size */
     TRACE_QUERY_LONG = 7,           /* it is longer than its own size, or a fill bit is set */
     TRACE_QUERY_LIMITS = 8,         /* it has not 2 to 8 vertices and 1 to 24 edges */
@@ -57,7 +58,8 @@ enum trace_refusal {
     TRACE_LIST_SMALL = 21,          /* the rows do not fit the match list */
     TRACE_RECORDS_SHORT = 22,       /* the list of records is shorter than the plan's operators */
     TRACE_PLAN_STUCK = 23,          /* no uncovered query vertex has an edge to the covered ones */
-    TRACE_PLAN_BYTES = 24           /* the drawn plan's bytes do not fit */
+    TRACE_PLAN_BYTES = 24,          /* the drawn plan's bytes do not fit */
+    TRACE_QUERY_DAYS = 25           /* a vertex has a first day above its last: after 6 to 8, before 9 */
 };
 
 /* What a run records of one operator: the rows of its result, and its cost. Scans and joins cost 0. */
@@ -69,19 +71,19 @@ struct trace_record {
 /* As many records serve every plan. */
 #define TRACE_MAX_OPERATORS 31
 
-/* Loads a graph file into a store of 3 N + 2 M + 4 words or more, and gives N and M. Refusals 1 to 5.
+/* Loads a graph file into a store of 4 N + 2 M + 4 words or more, and gives N and M. Refusals 1 to 5.
  * Refused, the store is untouched; loaded, the words past the used ones are. */
 uint32_t trace_load(const uint8_t *file, size_t file_len,
                     uint32_t *store, size_t store_len,
                     uint64_t *vertices, uint64_t *edges);
 
-/* Checks a plan against a query, and gives the plan's number of operators. Refusals 6 to 18. */
+/* Checks a plan against a query, and gives the plan's number of operators. Refusals 6 to 18 and 25. */
 uint32_t trace_check_plan(const uint8_t *query, size_t query_len,
                           const uint8_t *plan, size_t plan_len,
                           uint64_t *operators);
 
 /* Draws a plan for a query over a store, of one scan and n - 2 extends, and gives its length in bytes: at most 6. Refusals 6 to 11,
- * 19, 23 and 24.
+ * 19 and 23 to 25.
  *
  * The scan is of the query edge whose label has the fewest edges in the store (label 0 has them all), then the lowest index;
  * each extend is by the uncovered vertex with the most query edges to the covered ones, then the lowest number. The first bytes
@@ -92,7 +94,7 @@ uint32_t trace_draw_plan(const uint32_t *store, size_t store_len,
                          uint64_t *bytes);
 
 /* Runs a plan over a store, and gives the number of rows, the cost, and the sums of build rows and probe rows over all joins.
- * Refusals 6 to 22: 22 comes after those of the plan and before 19.
+ * Refusals 6 to 22 and 25: 22 comes after those of the plan and before 19.
  *
  * A row is n words, the data vertices of query vertices 0 to n - 1, no two the same; the rows are the matches of the query, each
  * once, from the list's first word on. Refused, the list is untouched; accepted, its words past the last row are. The scratch is

@@ -9,17 +9,17 @@ use lib.Dec.{ltb}
 use lib.ListN.{length, getD, length-append}
 use borrow.Author.Tests.{ltb-true, lt-ltb}
 use Rattle.lists.specs.Lists.{range, all}
-use Rattle.lists.proofs.All.{all-getD, all-range}
+use Rattle.lists.proofs.All.{length-range, getD-range, all-getD, all-range}
 use Rattle.lists.proofs.Count.{all-map}
 use Rattle.lists.proofs.Maps.{map-indices}
 use Rattle.packed.specs.Field.{fieldAt, fillSet, bytesFor}
 use Rattle.packed.specs.Encode.{bitsOf, bytesOf, number, bitIn}
 use Rattle.packed.proofs.Number.{number-lt}
 use Rattle.packed.proofs.Encoded.{bitIn-lt, length-bytesOf, fill-bytesOf}
-use Rattle.packed.proofs.RoundTrip.{length-bitsOf, length-records, number-bitsOf, number-put, field-put, field-record}
-use Rattle.graph.specs.Graph.{Edge, Graph}
-use Rattle.graph.specs.File.{graphOf, graphFault, vertexCount, edgeCount, edgeStart, edgeIn, fileSize}
-use Rattle.graph.specs.inner.Encode.{edgeBits, graphBits, encode}
+use Rattle.packed.proofs.RoundTrip.{length-bitsOf, length-records, number-put, field-put, field-record}
+use Rattle.graph.specs.Graph.{Edge, Graph, labelOf, dayOf}
+use Rattle.graph.specs.File.{graphOf, graphFault, vertexCount, edgeCount, vertexStart, labelIn, dayIn, edgeStart, edgeIn, fileSize}
+use Rattle.graph.specs.inner.Encode.{vertexBits, edgeBits, graphBits, encode}
 use Rattle.graph.specs.Store.{wellFormed}
 use Rattle.graph.proofs.WellFormed.{WellFormed, Fitting, fitting, fitting-edge, well-formed}
 use Rattle.graph.proofs.FileGraph.{accepts, formed-file}
@@ -47,19 +47,35 @@ module _ (n : ℕ) (few : n < 65536) (e : Edge) (f : Fitting n e) where
       ap (λ (bits : List ℕ). number (bitIn bits) 24 16) (sym (append-nil (edgeBits e)))
       ∙ number-put (bitsOf 16 (e .source) ++ bitsOf 8 (e .label)) 16 (e .target) [] 24 (simp (length-append, length-bitsOf)) (omega arith)
 
+-- ---- a vertex
+
+pub length-vertexBits : (g : Graph) (v : ℕ) → length (vertexBits g v) ≡ 32
+unfolding vertexBits
+length-vertexBits g v = simp (length-append, length-bitsOf)
+
+vertex-label : (g : Graph) (v : ℕ) → labelOf g v < 65536 → number (bitIn (vertexBits g v)) 0 16 ≡ labelOf g v
+unfolding vertexBits
+vertex-label g v h = number-put [] 16 (labelOf g v) (bitsOf 16 (dayOf g v)) 0 refl h
+
+vertex-day : (g : Graph) (v : ℕ) → dayOf g v < 65536 → number (bitIn (vertexBits g v)) 16 16 ≡ dayOf g v
+unfolding vertexBits
+vertex-day g v h =
+    ap (λ (bits : List ℕ). number (bitIn bits) 16 16) (sym (append-nil (vertexBits g v)))
+    ∙ number-put (bitsOf 16 (labelOf g v)) 16 (dayOf g v) [] 16 (length-bitsOf 16 (labelOf g v)) h
+
 -- ---- the file
 
--- The vertex labels and the edges, as bits.
-abbrev labelBits : Graph → List ℕ
-labelBits g = flatMap (bitsOf 16) (g .labels)
+-- The vertices and the edges, as bits.
+abbrev verticesBits : Graph → List ℕ
+verticesBits g = flatMap (vertexBits g) (range (g .vertices))
 
 abbrev edgesBits : Graph → List ℕ
 edgesBits g = flatMap edgeBits (g .edges)
 
-pub length-graphBits : (g : Graph) → length (graphBits g) ≡ 36 + 16 * length (g .labels) + 40 * length (g .edges)
+pub length-graphBits : (g : Graph) → length (graphBits g) ≡ 36 + 32 * g .vertices + 40 * length (g .edges)
 unfolding graphBits
 length-graphBits g =
-    simp (length-append, length-bitsOf, length-records (bitsOf 16) 16 (length-bitsOf 16), length-records edgeBits 40 length-edgeBits)
+    simp (length-append, length-bitsOf, length-records (vertexBits g) 32 (length-vertexBits g), length-range, length-records edgeBits 40 length-edgeBits)
 
 -- What stands past the end of a list of edges; nothing depends on it.
 none : Edge
@@ -69,7 +85,7 @@ module _ (g : Graph) (w : WellFormed g) where
   vertices-read : vertexCount (encode g) ≡ g .vertices
   unfolding encode graphBits
   vertices-read =
-      let rest : List ℕ = bitsOf 20 (length (g .edges)) ++ labelBits g ++ edgesBits g in
+      let rest : List ℕ = bitsOf 20 (length (g .edges)) ++ verticesBits g ++ edgesBits g in
       let parts : graphBits g ≡ bitsOf 16 (g .vertices) ++ rest = simp append-assoc in
       ap (λ (bits : List ℕ). fieldAt (bytesOf bits) 0 16) parts
       ∙ field-put [] 16 (g .vertices) rest 0 refl (w .few-vertices)
@@ -78,28 +94,42 @@ module _ (g : Graph) (w : WellFormed g) where
   unfolding encode graphBits
   edges-read =
       ap (λ (bits : List ℕ). fieldAt (bytesOf bits) 16 20)
-      (append-assoc (bitsOf 16 (g .vertices) ++ bitsOf 20 (length (g .edges))) (labelBits g) (edgesBits g))
-      ∙ field-put (bitsOf 16 (g .vertices)) 20 (length (g .edges)) (labelBits g ++ edgesBits g) 16 (length-bitsOf 16 (g .vertices))
+      (append-assoc (bitsOf 16 (g .vertices) ++ bitsOf 20 (length (g .edges))) (verticesBits g) (edgesBits g))
+      ∙ field-put (bitsOf 16 (g .vertices)) 20 (length (g .edges)) (verticesBits g ++ edgesBits g) 16 (length-bitsOf 16 (g .vertices))
       (w .few-edges)
 
-  label-at : (v : ℕ) → v < length (g .labels) → fieldAt (encode g) (36 + 16 * v) 16 ≡ getD (g .labels) v 0
+  -- A field of vertex v, at bits past its start.
+  vertex-field : (v at k : ℕ) → v < g .vertices → at + k ≤ 32
+      → fieldAt (encode g) (36 + (32 * v + at)) k ≡ number (bitIn (vertexBits g v)) at k
   unfolding encode graphBits
+  vertex-field v at k h l =
+      field-record (bitsOf 16 (g .vertices) ++ bitsOf 20 (length (g .edges))) (vertexBits g) (range (g .vertices)) (edgesBits g) 36 32
+      (simp (length-append, length-bitsOf)) (length-vertexBits g) 0 v at k (rw length-range h) l
+      ∙ ap (λ (x : ℕ). number (bitIn (vertexBits g x)) at k) (getD-range (g .vertices) v h)
+
+  label-at : (v : ℕ) → v < length (g .labels) → labelIn (encode g) v ≡ labelOf g v
   label-at v h =
-      let from : 36 + 16 * v ≡ 36 + (16 * v + 0) = omega arith in
+      let from : vertexStart v ≡ 36 + (32 * v + 0) = omega arith in
       ap (λ (at : ℕ). fieldAt (encode g) at 16) from
-      ∙ field-record (bitsOf 16 (g .vertices) ++ bitsOf 20 (length (g .edges))) (bitsOf 16) (g .labels) (edgesBits g) 36 16
-      (simp (length-append, length-bitsOf)) (length-bitsOf 16) 0 v 0 16 h (omega arith)
-      ∙ number-bitsOf 16 (getD (g .labels) v 0) (ltb-true _ 65536 (all-getD (λ (l : ℕ). ltb l 65536) (g .labels) v 0 h (w .labels-fit)))
+      ∙ vertex-field v 0 16 (rw (w .described .0) at h) (omega arith)
+      ∙ vertex-label g v (ltb-true _ 65536 (all-getD (λ (l : ℕ). ltb l 65536) (g .labels) v 0 h (w .labels-fit)))
+
+  day-at : (v : ℕ) → v < length (g .days) → dayIn (encode g) v ≡ dayOf g v
+  day-at v h =
+      let from : vertexStart v + 16 ≡ 36 + (32 * v + 16) = omega arith in
+      ap (λ (at : ℕ). fieldAt (encode g) at 16) from
+      ∙ vertex-field v 16 16 (rw (w .described .1) at h) (omega arith)
+      ∙ vertex-day g v (ltb-true _ 65536 (all-getD (λ (t : ℕ). ltb t 65536) (g .days) v 0 h (w .days-fit)))
 
   -- A field of edge i, at bits past its start.
   edge-field : (d : Edge) (i at k : ℕ) → i < length (g .edges) → at + k ≤ 40
-      → fieldAt (encode g) (36 + 16 * g .vertices + (40 * i + at)) k ≡ number (bitIn (edgeBits (getD (g .edges) i d))) at k
+      → fieldAt (encode g) (36 + 32 * g .vertices + (40 * i + at)) k ≡ number (bitIn (edgeBits (getD (g .edges) i d))) at k
   unfolding encode graphBits
   edge-field d i at k h l =
-      let pre : List ℕ = bitsOf 16 (g .vertices) ++ bitsOf 20 (length (g .edges)) ++ labelBits g in
-      ap (λ (bits : List ℕ). fieldAt (bytesOf bits) (36 + 16 * g .vertices + (40 * i + at)) k) (sym (append-nil (graphBits g)))
-      ∙ field-record pre edgeBits (g .edges) [] (36 + 16 * g .vertices) 40
-      (simp (length-append, length-bitsOf, length-records (bitsOf 16) 16 (length-bitsOf 16), w .labelled)) length-edgeBits d i at k h l
+      let pre : List ℕ = bitsOf 16 (g .vertices) ++ bitsOf 20 (length (g .edges)) ++ verticesBits g in
+      ap (λ (bits : List ℕ). fieldAt (bytesOf bits) (36 + 32 * g .vertices + (40 * i + at)) k) (sym (append-nil (graphBits g)))
+      ∙ field-record pre edgeBits (g .edges) [] (36 + 32 * g .vertices) 40
+      (simp (length-append, length-bitsOf, length-records (vertexBits g) 32 (length-vertexBits g), length-range)) length-edgeBits d i at k h l
 
   edge-at : (d : Edge) (i : ℕ) → i < length (g .edges) → edgeIn (encode g) i ≡ getD (g .edges) i d
   edge-at d i h =
@@ -113,7 +143,7 @@ module _ (g : Graph) (w : WellFormed g) where
 
       read : (at k : ℕ) → at + k ≤ 40 → fieldAt (encode g) (edgeStart (encode g) i + at) k ≡ number (bitIn (edgeBits e)) at k
       read at k l =
-          let place : edgeStart (encode g) i + at ≡ 36 + 16 * g .vertices + (40 * i + at) = rw vertices-read (omega arith) in
+          let place : edgeStart (encode g) i + at ≡ 36 + 32 * g .vertices + (40 * i + at) = rw vertices-read (omega arith) in
           ap (λ (b : ℕ). fieldAt (encode g) b k) place ∙ edge-field d i at k h l
 
       source : fieldAt (encode g) (edgeStart (encode g) i) 16 ≡ e .source
@@ -129,12 +159,17 @@ module _ (g : Graph) (w : WellFormed g) where
 
   graph-read : graphOf (encode g) ≡ g
   unfolding graphOf
-  graph-read = λ j. record { vertices = vertices-read j; labels = labels j; edges = edges j }
+  graph-read = λ j. record { vertices = vertices-read j; labels = labels j; days = days j; edges = edges j }
     where
-      labels : map (λ (v : ℕ). fieldAt (encode g) (36 + 16 * v) 16) (range (vertexCount (encode g))) ≡ g .labels
+      labels : map (labelIn (encode g)) (range (vertexCount (encode g))) ≡ g .labels
       labels =
-          ap (λ (n : ℕ). map (λ (v : ℕ). fieldAt (encode g) (36 + 16 * v) 16) (range n)) (vertices-read ∙ sym (w .labelled))
-          ∙ map-indices _ (g .labels) 0 label-at
+          ap (λ (n : ℕ). map (labelIn (encode g)) (range n)) (vertices-read ∙ sym (w .described .0))
+          ∙ map-indices (labelIn (encode g)) (g .labels) 0 label-at
+
+      days : map (dayIn (encode g)) (range (vertexCount (encode g))) ≡ g .days
+      days =
+          ap (λ (n : ℕ). map (dayIn (encode g)) (range n)) (vertices-read ∙ sym (w .described .1))
+          ∙ map-indices (dayIn (encode g)) (g .days) 0 day-at
 
       edges : map (edgeIn (encode g)) (range (edgeCount (encode g))) ≡ g .edges
       edges =
@@ -142,7 +177,7 @@ module _ (g : Graph) (w : WellFormed g) where
           ∙ map-indices (edgeIn (encode g)) (g .edges) none (edge-at none)
 
   length-bits : length (graphBits g) ≡ edgeStart (encode g) (edgeCount (encode g))
-  length-bits = rw (length-graphBits, w .labelled, edges-read, vertices-read)
+  length-bits = rw (length-graphBits, edges-read, vertices-read)
 
   file-accepted : graphFault (encode g) ≡ 0
   unfolding encode

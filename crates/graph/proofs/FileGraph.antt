@@ -17,7 +17,7 @@ use Rattle.lists.proofs.Maps.{ascending-image, image-ascending}
 use Rattle.packed.specs.Field.{fieldAt, fillSet}
 use Rattle.packed.proofs.Laws.{field-lt}
 use Rattle.graph.specs.Graph.{forward, key}
-use Rattle.graph.specs.File.{graphOf, graphFault, vertexCount, edgeCount, edgeStart, edgeIn, fileSize, badEdge, ascends, edgeFault}
+use Rattle.graph.specs.File.{graphOf, graphFault, vertexCount, edgeCount, vertexStart, labelIn, dayIn, edgeStart, edgeIn, fileSize, badEdge, ascends, edgeFault}
 use Rattle.graph.specs.Store.{wellFormed}
 use Rattle.graph.proofs.WellFormed.{WellFormed, fitting, formed-well}
 
@@ -64,10 +64,14 @@ file-formed s a =
     record {
       few-vertices = field-lt s 0 16;
       few-edges = rw (length-map, length-range) (field-lt s 16 20);
-      labelled = length-map (range (vertexCount s)) _ ∙ length-range (vertexCount s);
+      described =
+          (length-map (range (vertexCount s)) _ ∙ length-range (vertexCount s), length-map (range (vertexCount s)) _ ∙ length-range (vertexCount s));
       labels-fit =
-          all-map (λ (l : ℕ). ltb l 65536) (λ (v : ℕ). fieldAt s (36 + 16 * v) 16) (range (vertexCount s))
-          ∙ all-range _ (vertexCount s) (λ v h. lt-ltb _ 65536 (field-lt s (36 + 16 * v) 16));
+          all-map (λ (l : ℕ). ltb l 65536) (labelIn s) (range (vertexCount s))
+          ∙ all-range _ (vertexCount s) (λ v h. lt-ltb _ 65536 (field-lt s (vertexStart v) 16));
+      days-fit =
+          all-map (λ (t : ℕ). ltb t 65536) (dayIn s) (range (vertexCount s))
+          ∙ all-range _ (vertexCount s) (λ v h. lt-ltb _ 65536 (field-lt s (vertexStart v + 16) 16));
       edges-fit =
           all-map (fitting (vertexCount s)) (edgeIn s) (range (edgeCount s))
           ∙ all-range _ (edgeCount s)

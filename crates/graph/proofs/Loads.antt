@@ -97,7 +97,7 @@ load-exists store e = (file, fits, load-store file store fits ∙ sym whole, acc
     fits : loadFault file (length store) ≡ 0
     fits =
         let size : length (storeOf (graphOf file)) ≡ storeSize (graphOf file) =
-        length-store (graphOf file) (well-formed (graphOf file) (file-well-formed file (accepted-loads store e .1)) .labelled) in
+        length-store (graphOf file) (well-formed (graphOf file) (file-well-formed file (accepted-loads store e .1)) .described) in
         load-fits file (length store) (accepted-loads store e .1) (omega (arith, simp length-append at (ap length whole)))
 
 -- A store that an accepted file loads to is not refused.

@@ -1,4 +1,4 @@
--- Where the parts of a store lie: 'N, M, the labels, N+1 forward offsets, M forward entries, N+1 backward offsets,
+-- Where the parts of a store lie: 'N, M, the labels', the days, 'N+1 forward offsets, M forward entries, N+1 backward offsets,
 -- M backward entries'. Assumes nothing.
 use mathlib.Core.Path.{_≡_, sym, _∙_, ap}
 use mathlib.Core.List.{List, _∷_, _++_, map, append-assoc}
@@ -15,6 +15,7 @@ use Rattle.lists.proofs.Maps.{getD-image}
 use Rattle.graph.specs.Graph.{Edge, Graph, Direction, forward, backward, near, key}
 use Rattle.graph.specs.Store.{offsets, entries, storeOf, storeSize}
 use Rattle.graph.specs.inner.Side.{sideAt}
+use Rattle.graph.proofs.WellFormed.{Described}
 
 pub length-offsets : (d : Direction) (g : Graph) → length (offsets d g) ≡ suc (g .vertices)
 unfolding offsets
@@ -24,11 +25,11 @@ pub length-entries : (d : Direction) (g : Graph) → length (entries d g) ≡ le
 unfolding entries
 length-entries d g = length-map (sort (map (key d) (g .edges))) _ ∙ length-sort (map (key d) (g .edges)) ∙ length-map (g .edges) (key d)
 
--- '3N + 2M + 4 words'.
-pub length-store : (g : Graph) → length (g .labels) ≡ g .vertices → length (storeOf g) ≡ storeSize g
+-- '4N + 2M + 4 words'.
+pub length-store : (g : Graph) → Described g → length (storeOf g) ≡ storeSize g
 unfolding storeOf
 length-store g e =
-    simp (length-append, length-offsets, length-entries, e) (omega arith)
+    simp (length-append, length-offsets, length-entries, e .0, e .1) (omega arith)
 
 -- The offset of v in one direction.
 abbrev pub offset : Direction → Graph → ℕ → ℕ
@@ -52,7 +53,7 @@ sideEnd forward g rest = side backward g rest
 sideEnd backward g rest = rest
 
 pub store-shape : (g : Graph) (rest : List ℕ)
-    → storeOf g ++ rest ≡ (g .vertices ∷ length (g .edges) ∷ g .labels) ++ side forward g (side backward g rest)
+    → storeOf g ++ rest ≡ (g .vertices ∷ length (g .edges) ∷ g .labels) ++ (g .days ++ side forward g (side backward g rest))
 unfolding storeOf
 store-shape g rest = simp append-assoc
 
@@ -64,11 +65,12 @@ side-entries d g rest k h =
     ∙ drop-append-add (offsets d g) (entries d g ++ rest) k
     ∙ drop-append-le k (entries d g) rest (rw length-entries h)
 
-module _ (g : Graph) (labelled : length (g .labels) ≡ g .vertices) (rest : List ℕ) where
+module _ (g : Graph) (described : Described g) (rest : List ℕ) where
   forward-at : drop (sideStart forward g) (storeOf g ++ rest) ≡ side forward g (side backward g rest)
   forward-at =
-      ap (drop (sideStart forward g)) (store-shape g rest)
-      ∙ drop-at (g .vertices ∷ length (g .edges) ∷ g .labels) (side forward g (side backward g rest)) (sideStart forward g) (omega arith)
+      ap (drop (sideStart forward g)) (store-shape g rest ∙ sym (append-assoc (g .vertices ∷ length (g .edges) ∷ g .labels) (g .days) _))
+      ∙ drop-at ((g .vertices ∷ length (g .edges) ∷ g .labels) ++ g .days) (side forward g (side backward g rest)) (sideStart forward g)
+      (length-append (g .vertices ∷ length (g .edges) ∷ g .labels) (g .days) ∙ omega (arith, described .0, described .1))
 
   pub side-at : (d : Direction) → drop (sideStart d g) (storeOf g ++ rest) ≡ side d g (sideEnd d g rest)
   side-at forward = forward-at

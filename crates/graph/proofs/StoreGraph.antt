@@ -1,12 +1,12 @@
 -- The words that a well-formed graph is loaded to spell that graph. Assumes nothing.
 use mathlib.Core.Path.{_≡_, refl, sym, _∙_, ap, ap₂}
 use mathlib.Core.Bool.{Bool, true, not, _&&_}
-use mathlib.Core.List.{List, _++_, map, map-map, map-id, flatMap}
+use mathlib.Core.List.{List, _∷_, _++_, map, map-map, map-id, flatMap}
 use Prim.Native.Nat.{ℕ, suc, _+_, _-_, _*_, _<_}
 use native.Mathlib.Omega.{arith}
 use lib.Dec.{ltb}
-use lib.ListN.{take, drop}
-use lib.Seq.{take-at}
+use lib.ListN.{length, take, drop}
+use lib.Seq.{take-at, drop-at}
 use borrow.Author.Tests.{eqb-true, lt-ltb}
 use Rattle.lists.specs.Lists.{_⇒_, range, keep, same}
 use Rattle.lists.specs.Refusal.{refuse}
@@ -56,15 +56,21 @@ module _ (g : Graph) (w : WellFormed g) where
     list-in v h =
         let store : List ℕ = storeOf g ++ rest in
         let from : ℕ = offset forward g v in
-        let place : 3 + 2 * g .vertices + from ≡ sideStart forward g + (suc (g .vertices) + from) = omega arith in
-        ap₂ (λ (to from : ℕ). take (to - from) (drop (3 + 2 * g .vertices + from) store))
-        (store-offset g (w .labelled) rest forward (suc v) h) (store-offset g (w .labelled) rest forward v (omega arith))
+        let place : 3 + 3 * g .vertices + from ≡ sideStart forward g + (suc (g .vertices) + from) = omega arith in
+        ap₂ (λ (to from : ℕ). take (to - from) (drop (3 + 3 * g .vertices + from) store))
+        (store-offset g (w .described) rest forward (suc v) h) (store-offset g (w .described) rest forward v (omega arith))
         ∙ ap (λ (n : ℕ). take (offset forward g (suc v) - offset forward g v) (drop n store)) place
 
     labels-in : take (g .vertices) (drop 2 (storeOf g ++ rest)) ≡ g .labels
     labels-in =
         ap (λ (l : List ℕ). take (g .vertices) (drop 2 l)) (store-shape g rest)
-        ∙ take-at (g .labels) _ (g .vertices) (w .labelled)
+        ∙ take-at (g .labels) _ (g .vertices) (w .described .0)
+
+    days-in : take (g .vertices) (drop (2 + g .vertices) (storeOf g ++ rest)) ≡ g .days
+    days-in =
+        ap (λ (l : List ℕ). take (g .vertices) (drop (2 + g .vertices) l)) (store-shape g rest)
+        ∙ ap (take (g .vertices)) (drop-at (g .vertices ∷ length (g .edges) ∷ g .labels) _ (2 + g .vertices) (omega (arith, w .described .0)))
+        ∙ take-at (g .days) _ (g .vertices) (w .described .1)
 
     edges-in : flatMap (λ (v : ℕ). map (entryEdge v) (listIn (storeOf g ++ rest) v)) (range (g .vertices)) ≡ g .edges
     edges-in =
@@ -77,7 +83,7 @@ module _ (g : Graph) (w : WellFormed g) where
 
     graph-in : graphIn (storeOf g ++ rest) ≡ g
     unfolding graphIn storeOf
-    graph-in = λ i. record { vertices = g .vertices; labels = labels-in i; edges = edges-in i }
+    graph-in = λ i. record { vertices = g .vertices; labels = labels-in i; days = days-in i; edges = edges-in i }
 
 pub store-in : (g : Graph) → wellFormed g ≡ true → (rest : List ℕ) → graphIn (storeOf g ++ rest) ≡ g
 store-in g t rest = graph-in g (well-formed g t) rest
@@ -90,4 +96,4 @@ store-accepted g t rest =
     ∙ zero-refuse 19 (not (wellFormed g && same (take (storeSize g) (storeOf g ++ rest)) (storeOf g)))
     (ap not (and-both (wellFormed g) (same (take (storeSize g) (storeOf g ++ rest)) (storeOf g)) t
     (eq-same (take (storeSize g) (storeOf g ++ rest)) (storeOf g)
-    (take-at (storeOf g) rest (storeSize g) (length-store g (well-formed g t .labelled))))))
+    (take-at (storeOf g) rest (storeSize g) (length-store g (well-formed g t .described))))))

@@ -45,7 +45,7 @@ module _ (g : Graph) (w : WellFormed g) (d : Direction) (v : ℕ) where
     vertex-list =
         let size : ℕ = offset d g (suc v) - offset d g v in
         let last : offset d g (suc v) ≤ length (g .edges) = count-le _ (g .edges) in
-        ap (take size) (store-entries g (w .labelled) rest d (offset d g v) (count-le _ (g .edges)))
+        ap (take size) (store-entries g (w .described) rest d (offset d g v) (count-le _ (g .edges)))
         ∙ take-append-le size (drop (offset d g v) (entries d g)) (sideEnd d g rest) (rw (length-drop, length-entries) (omega arith))
         ∙ entries-cut
 

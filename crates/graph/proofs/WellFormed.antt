@@ -52,12 +52,17 @@ edge-fitting n e f =
       lt-ltb (e .label) 256 (f .label-fits),
     )
 
+-- A label and a day a vertex.
+abbrev pub Described : Graph → Type 0
+Described g = (length (g .labels) ≡ g .vertices) × (length (g .days) ≡ g .vertices)
+
 -- The parts of `wellFormed`.
 pub record WellFormed (g : Graph) : Type 0 where
   pub few-vertices : g .vertices < 65536
   pub few-edges : length (g .edges) < 1048576
-  pub labelled : length (g .labels) ≡ g .vertices
+  pub described : Described g
   pub labels-fit : all (λ (l : ℕ). ltb l 65536) (g .labels) ≡ true
+  pub days-fit : all (λ (t : ℕ). ltb t 65536) (g .days) ≡ true
   pub edges-fit : all (fitting (g .vertices)) (g .edges) ≡ true
   pub edges-ascend : ascending (map (key forward) (g .edges)) ≡ true
 
@@ -65,12 +70,13 @@ pub well-formed : (g : Graph) → wellFormed g ≡ true → WellFormed g
 unfolding wellFormed
 well-formed g t =
     record {
-      few-vertices = ltb-true (g .vertices) 65536 (search conj);
-      few-edges = ltb-true (length (g .edges)) 1048576 (search conj);
-      labelled = eqb-true (length (g .labels)) (g .vertices) (search conj);
-      labels-fit = search conj;
-      edges-fit = search conj;
-      edges-ascend = search conj;
+      few-vertices = ltb-true (g .vertices) 65536 (search conj depth 8);
+      few-edges = ltb-true (length (g .edges)) 1048576 (search conj depth 8);
+      described = (eqb-true (length (g .labels)) (g .vertices) (search conj depth 8), eqb-true (length (g .days)) (g .vertices) (search conj));
+      labels-fit = search conj depth 8;
+      days-fit = search conj depth 8;
+      edges-fit = search conj depth 8;
+      edges-ascend = search conj depth 8;
     }
 
 pub formed-well : (g : Graph) → WellFormed g → wellFormed g ≡ true
@@ -79,7 +85,9 @@ formed-well g w =
     rw (
       lt-ltb (g .vertices) 65536 (w .few-vertices),
       lt-ltb (length (g .edges)) 1048576 (w .few-edges),
-      eq-eqb (length (g .labels)) (g .vertices) (w .labelled),
+      eq-eqb (length (g .labels)) (g .vertices) (w .described .0),
       w .labels-fit,
+      eq-eqb (length (g .days)) (g .vertices) (w .described .1),
+      w .days-fit,
       w .edges-fit,
     ) (w .edges-ascend)

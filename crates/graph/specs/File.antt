@@ -1,5 +1,5 @@
--- The graph file: 'N vertices (16 bits), M edges (20 bits), N vertex labels (16 bits each), then M edges of source (16),
--- label (8), target (16)', and the faults for which Load refuses one. Assumes nothing.
+-- The graph file: 'N vertices (16 bits), M edges (20 bits), N vertex labels (16 bits each)' with an inspection day of 16 bits after
+-- each, 'then M edges of source (16), label (8), target (16)', and the faults for which Load refuses one. Assumes nothing.
 use mathlib.Core.Bool.{Bool, true, not, _&&_, _||_}
 use mathlib.Core.List.{List, [], _∷_, map}
 use Prim.Native.Nat.{ℕ, zero, suc, _+_, _*_}
@@ -17,9 +17,19 @@ vertexCount s = fieldAt s 0 16
 abbrev pub edgeCount : List ℕ → ℕ
 edgeCount s = fieldAt s 16 20
 
--- Where the edges begin, and where edge i does.
+-- Where vertex v begins, with its label and then its day.
+abbrev pub vertexStart : ℕ → ℕ
+vertexStart v = 36 + 32 * v
+
+abbrev pub labelIn : List ℕ → ℕ → ℕ
+labelIn s v = fieldAt s (vertexStart v) 16
+
+abbrev pub dayIn : List ℕ → ℕ → ℕ
+dayIn s v = fieldAt s (vertexStart v + 16) 16
+
+-- Where edge i begins.
 abbrev pub edgeStart : List ℕ → ℕ → ℕ
-edgeStart s i = 36 + 16 * vertexCount s + 40 * i
+edgeStart s i = 36 + 32 * vertexCount s + 40 * i
 
 abbrev pub edgeIn : List ℕ → ℕ → Edge
 edgeIn s i =
@@ -34,13 +44,14 @@ unfoldable pub graphOf : List ℕ → Graph
 graphOf s =
     record {
       vertices = vertexCount s;
-      labels = map (λ (v : ℕ). fieldAt s (36 + 16 * v) 16) (range (vertexCount s));
+      labels = map (labelIn s) (range (vertexCount s));
+      days = map (dayIn s) (range (vertexCount s));
       edges = map (edgeIn s) (range (edgeCount s));
     }
 
--- 'The file has 5 + 2N + 5M bytes.'
+-- 'A file has 5 + 4N + 5M bytes.'
 abbrev pub fileSize : List ℕ → ℕ
-fileSize s = 5 + 2 * vertexCount s + 5 * edgeCount s
+fileSize s = 5 + 4 * vertexCount s + 5 * edgeCount s
 
 -- '3 vertex outside 0 to N-1 or label 0.'
 abbrev pub badEdge : ℕ → Edge → Bool

@@ -12,13 +12,14 @@ pub record Edge : Type 0 where
   pub label : ℕ
   pub target : ℕ
 
--- Vertices 0 to N-1 with a label each, and edges in the file's order.
+-- Vertices 0 to N-1 with a label and an inspection day each, and edges in the file's order.
 pub record Graph : Type 0 where
   pub vertices : ℕ
   pub labels : List ℕ
+  pub days : List ℕ
   pub edges : List Edge
 
--- The limits of a graph: 'N vertices (16 bits), M edges (20 bits), N vertex labels (16 bits each)'; 'edge labels are 1 to 255'.
+-- The limits of a graph: 'N vertices (16 bits), M edges (20 bits)', labels and days of '16 bits each'; 'edge labels are 1 to 255'.
 abbrev pub maxGraphVertices : ℕ
 maxGraphVertices = 65535
 
@@ -31,6 +32,9 @@ maxGraphEdges = 1048575
 
 abbrev pub maxVertexLabel : ℕ
 maxVertexLabel = 65535
+
+abbrev pub maxDay : ℕ
+maxDay = 65535
 
 abbrev pub maxEdgeLabel : ℕ
 maxEdgeLabel = 255
@@ -74,6 +78,9 @@ linked g l x y = any (λ (e : Edge). eqb (e .source) x && covers l (e .label) &&
 unfoldable pub portionLength : Graph → Direction → ℕ → ℕ → ℕ
 portionLength g d l x = count (λ (e : Edge). eqb (near d e) x && covers l (e .label)) (g .edges)
 
--- A vertex's label in the graph file.
+-- A vertex's label in the graph file, and its inspection day: 'days since 1 January 2000, 0 for none'.
 abbrev pub labelOf : Graph → ℕ → ℕ
 labelOf g x = getD (g .labels) x 0
+
+abbrev pub dayOf : Graph → ℕ → ℕ
+dayOf g x = getD (g .days) x 0

@@ -1,4 +1,4 @@
--- The store: '3N + 2M + 4 words: N, M, the labels, N+1 forward offsets, M forward entries, N+1 backward offsets, M backward
+-- The store: '4N + 2M + 4 words: N, M, the labels, the days, N+1 forward offsets, M forward entries, N+1 backward offsets, M backward
 -- entries', what Load leaves in it, and which stores no accepted graph file loads to. Assumes nothing.
 use mathlib.Core.Path.{_≡_}
 use mathlib.Core.Logic.{_↔_}
@@ -9,7 +9,7 @@ use lib.Dec.{eqb, ltb}
 use lib.ListN.{length, getD, take, drop}
 use Rattle.lists.specs.Lists.{range, all, count, same, ascending, sort}
 use Rattle.lists.specs.Refusal.{refuse, first}
-use Rattle.graph.specs.Graph.{Edge, Graph, maxGraphVertices, maxGraphEdges, maxVertexLabel, maxEdgeLabel, entrySpan, entryEnd, Direction, forward, backward, near, key}
+use Rattle.graph.specs.Graph.{Edge, Graph, maxGraphVertices, maxGraphEdges, maxVertexLabel, maxDay, maxEdgeLabel, entrySpan, entryEnd, Direction, forward, backward, near, key}
 use Rattle.graph.specs.File.{graphOf, graphFault, badEdge}
 
 -- 'Offsets count entries from 0': how many edges have their near end below a vertex, for each vertex and one past the last.
@@ -23,12 +23,12 @@ entries d g = map (λ (k : ℕ). k % entryEnd) (sort (map (key d) (g .edges)))
 -- The words that a graph is loaded to.
 unfoldable pub storeOf : Graph → List ℕ
 storeOf g =
-    g .vertices ∷ length (g .edges) ∷ g .labels ++ offsets forward g ++ entries forward g ++ offsets backward g
+    g .vertices ∷ length (g .edges) ∷ g .labels ++ g .days ++ offsets forward g ++ entries forward g ++ offsets backward g
     ++ entries backward g
 
--- '3N + 2M + 4 of them used.'
+-- '4N + 2M + 4 words.'
 abbrev pub usedWords : ℕ → ℕ → ℕ
-usedWords n m = 3 * n + 2 * m + 4
+usedWords n m = 4 * n + 2 * m + 4
 
 abbrev pub storeSize : Graph → ℕ
 storeSize g = usedWords (g .vertices) (length (g .edges))
@@ -53,8 +53,8 @@ loadStore s store =
 abbrev pub listIn : List ℕ → ℕ → List ℕ
 listIn store v =
     let n = getD store 0 0 in
-    let from = getD store (2 + n + v) 0 in
-    take (getD store (2 + n + suc v) 0 - from) (drop (3 + 2 * n + from) store)
+    let from = getD store (2 + 2 * n + v) 0 in
+    take (getD store (2 + 2 * n + suc v) 0 - from) (drop (3 + 3 * n + from) store)
 
 -- The edge of an entry in the forward list of v.
 abbrev pub entryEdge : ℕ → ℕ → Edge
@@ -66,14 +66,16 @@ graphIn store =
     record {
       vertices = getD store 0 0;
       labels = take (getD store 0 0) (drop 2 store);
+      days = take (getD store 0 0) (drop (2 + getD store 0 0) store);
       edges = flatMap (λ (v : ℕ). map (entryEdge v) (listIn store v)) (range (getD store 0 0));
     }
 
--- A graph that some accepted file holds: counts, labels and edges in their ranges, edges ascending strictly.
+-- A graph that some accepted file holds: counts, labels, days and edges in their ranges, edges ascending strictly.
 unfoldable pub wellFormed : Graph → Bool
 wellFormed g =
-    ltb (g .vertices) (suc maxGraphVertices) && ltb (length (g .edges)) (suc maxGraphEdges) && eqb (length (g .labels)) (g .vertices)
-    && all (λ (l : ℕ). ltb l (suc maxVertexLabel)) (g .labels)
+    ltb (g .vertices) (suc maxGraphVertices) && ltb (length (g .edges)) (suc maxGraphEdges)
+    && eqb (length (g .labels)) (g .vertices) && all (λ (l : ℕ). ltb l (suc maxVertexLabel)) (g .labels)
+    && eqb (length (g .days)) (g .vertices) && all (λ (t : ℕ). ltb t (suc maxDay)) (g .days)
     && all (λ (e : Edge). not (badEdge (g .vertices) e) && ltb (e .label) (suc maxEdgeLabel)) (g .edges)
     && ascending (map (key forward) (g .edges))
 

@@ -1,12 +1,12 @@
 // The graph: `specs/` has its file and its store.
 ghost use mathlib.Core.Path.{_≡_};
-ghost use Prim.Native.Nat.{_≤_};
+ghost use Prim.Native.Nat.{_+_, _≤_};
 ghost use lib.ListN.{length, getD};
 ghost use Rattle.graph.specs.Graph.{forward, backward};
 ghost use Rattle.graph.specs.Store.{usedWords};
 ghost use Rattle.graph.specs.inner.Side.{sideAt};
 
-// The counts of a graph, and where its words lie in a store. A side is N + 1 offsets followed by M entries; the forward side
+// The counts of a graph, and where its words lie in a store: N, M, a label and then a day a vertex, and two sides. A side is N + 1 offsets followed by M entries; the forward side
 // has the targets of each source, the backward side the sources of each target.
 pub struct Graph {
     pub vertices: usize,
@@ -22,6 +22,8 @@ impl Graph {
     pub const MAX_EDGES: usize = 1048575;
 
     pub const MAX_VERTEX_LABEL: u32 = 65535;
+
+    pub const MAX_DAY: u32 = 65535;
     // Edge labels are 1 to this.
     pub const MAX_EDGE_LABEL: usize = 255;
     // The position of the labels.
@@ -42,12 +44,20 @@ impl Graph {
         }
     }
 
+    // The position of the days.
+    pub fn days(self) -> usize
+        requires { ⌜ self .vertices ≤ 4294967295 ⌝ }
+        ensures { λ r. ⌜ r ≡ 2 + self .vertices ⌝ }
+    {
+        Graph::LABELS + self.vertices
+    }
+
     // The position of the forward side.
     pub fn forward(self) -> usize
         requires { ⌜ self .vertices ≤ 4294967295 ⌝ }
         ensures { λ r. ⌜ r ≡ sideAt forward (self .vertices) (self .edges) ⌝ }
     {
-        2 + self.vertices
+        2 + 2 * self.vertices
     }
 
     // The position of the backward side.
@@ -55,7 +65,7 @@ impl Graph {
         requires { ⌜ (self .vertices ≤ 4294967295) × (self .edges ≤ 4294967295) ⌝ }
         ensures { λ r. ⌜ r ≡ sideAt backward (self .vertices) (self .edges) ⌝ }
     {
-        3 + 2 * self.vertices + self.edges
+        3 + 3 * self.vertices + self.edges
     }
 
     // The words that are used.
@@ -63,6 +73,6 @@ impl Graph {
         requires { ⌜ (self .vertices ≤ 4294967295) × (self .edges ≤ 4294967295) ⌝ }
         ensures { λ r. ⌜ r ≡ usedWords (self .vertices) (self .edges) ⌝ }
     {
-        4 + 3 * self.vertices + 2 * self.edges
+        4 + 4 * self.vertices + 2 * self.edges
     }
 }

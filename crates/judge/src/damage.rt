@@ -10,7 +10,12 @@ use crate::tally::DAMAGED;
 use crate::tally::Tally;
 use judge_inputs::bits::add;
 use judge_inputs::bits::flip;
+use judge_inputs::bits::put_field;
 use judge_inputs::bits::sub;
+use judge_inputs::graphs;
+use judge_inputs::graphs::Graph;
+use judge_inputs::queries;
+use judge_inputs::queries::Query;
 use judge_inputs::random::below;
 
 // What the operation below refuses, this one refuses with the same number; else it accepts, or refuses with one of its own.
@@ -25,7 +30,7 @@ fn refusal_of(store: &Store, files: &Files, with: Lent, tally: &mut Tally) -> u3
     let q = query::read_query(query);
     let c = plan::check_plan(query, part(files, PLAN, with.plan));
     let a = runs::run(store, files, with, &mut list, tally);
-    let read = follows(0, q.refusal, 6, 11);
+    let read = follows(0, q.refusal, 6, 11) | (q.refusal == 25);
     let checked = follows(q.refusal, c.refusal, 12, 18);
     let ran = follows(c.refusal, a.refusal, 19, 22);
     let no_query = (q.query.vertices == 0) & (q.query.edges == 0);
@@ -64,8 +69,60 @@ fn judge_bit(store: &Store, files: &mut Files, with: Lent, bit: usize, tally: &m
     flip(files, bit, 1);
 }
 
+// Turns the range of a vertex into one whose first day is just above its last, or back.
+fn turn_range(q: &Query, files: &mut Files, v: usize, last: usize) {
+    let at = 25 + v % 8 * 48;
+    let lasts = put_field(files, at, 16, queries::first_day(q, v) ^ add(last, 1));
+    put_field(files, lasts, 16, queries::last_day(q, v) ^ last);
+}
+
+// A first day above the last gives 25, also where an edge is damaged; with a byte more it is 7.
+fn judge_range(
+    q: &Query,
+    store: &Store,
+    files: &mut Files,
+    with: Lent,
+    seed: &mut u64,
+    tally: &mut Tally,
+) {
+    let mut w = with;
+    let v = below(seed, with.width);
+    let last = below(seed, 65535);
+    let edge = 9 + with.width % 16 * 48 + below(seed, q[queries::EDGES] % 32 * 14) % 512;
+    turn_range(q, files, v, last);
+    judge_refusal(store, files, w, 25, tally);
+    flip(files, edge, 1);
+    judge_refusal(store, files, w, 25, tally);
+    flip(files, edge, 1);
+    w.query = add(with.query, 1);
+    judge_refusal(store, files, w, 7, tally);
+    turn_range(q, files, v, last);
+}
+
+// A bit of a day in the store of n vertices turned over gives 19 where the day is then above 65,535, and else not.
+fn judge_day(
+    n: usize,
+    store: &mut Store,
+    files: &Files,
+    with: Lent,
+    seed: &mut u64,
+    tally: &mut Tally,
+) {
+    let i = add(add(2, n), below(seed, n)) % runs::STORE_WORDS;
+    let bit = below(seed, 32) % 32;
+    if n == 0 {
+        return;
+    }
+    store[i] = store[i] ^ (1u32 << bit);
+    let refused = refusal_of(store, files, with, tally) == 19;
+    tally::judge(tally, DAMAGED, refused == (15 < bit));
+    store[i] = store[i] ^ (1u32 << bit);
+}
+
 // A run whose files or store are damaged, with a few words of scratch and list.
 pub fn judge_run(
+    g: &Graph,
+    q: &Query,
     store: &mut Store,
     files: &mut Files,
     with: Lent,
@@ -76,6 +133,8 @@ pub fn judge_run(
     w.scratch = 256;
     w.list = 256;
     judge_lengths(store, files, w, tally);
+    judge_range(q, store, files, w, seed, tally);
+    judge_day(g[graphs::VERTICES], store, files, w, seed, tally);
     judge_bit(store, files, w, below(seed, w.query % PLAN * 8), tally);
     let plan = PLAN * 8 + below(seed, w.plan % PLAN * 8) % 512;
     judge_bit(store, files, w, plan, tally);

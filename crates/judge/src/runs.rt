@@ -19,14 +19,14 @@ pub const MAX_SCRATCH: usize = 16384;
 
 pub const MAX_LIST: usize = 16384;
 
-pub const STORE_WORDS: usize = 3072;
+pub const STORE_WORDS: usize = 3840;
 
 pub const LIST_WORDS: usize = MAX_LIST + MARGIN;
 
-pub const FILE_BYTES: usize = 128;
+pub const FILE_BYTES: usize = 160;
 
 // Where the plan's file begins, after the query's.
-pub const PLAN: usize = 64;
+pub const PLAN: usize = 96;
 
 pub type Store = [u32; STORE_WORDS];
 
@@ -114,7 +114,7 @@ fn lend_store(file: &[u8], bytes: usize, store: &mut [u32], words: usize) -> Loa
 
 // The words of the store of N vertices and M edges.
 pub fn store_words(n: usize, m: usize) -> usize {
-    n % 65536 * 3 + m % 1048576 * 2 + 4
+    n % 65536 * 4 + m % 1048576 * 2 + 4
 }
 
 // Load of a file's first bytes to so many marked words. It touches none past the used ones, and none at all where it is refused.

@@ -9,9 +9,9 @@ use crate::random::chance;
 
 pub type Graph = [usize; WORDS];
 
-pub const WORDS: usize = 1032;
+pub const WORDS: usize = 1040;
 
-pub const FILE_BYTES: usize = 4096;
+pub const FILE_BYTES: usize = 5120;
 
 pub const VERTICES: usize = 0;
 
@@ -29,10 +29,12 @@ const EDGE_LABELS: usize = 5;
 
 const PERCENT: usize = 6;
 
-// Two bits of this word for each place choose its label.
+// Two bits of this word for each place choose its label, and two of the next its day.
 const LABELS: usize = 7;
 
-const CELLS: usize = 8;
+const DAYS: usize = 8;
+
+const CELLS: usize = 16;
 
 const CELL_COUNT: usize = 1024;
 
@@ -68,6 +70,12 @@ pub fn vertex_label(word: usize, i: usize) -> usize {
 // The label of the vertex of a place.
 pub fn label(g: &Graph, k: usize) -> usize {
     vertex_label(g[LABELS], k)
+}
+
+// The inspection day of the vertex of a place.
+pub fn day(g: &Graph, k: usize) -> usize {
+    let days = [0, 9447, 9448, 65535];
+    days[(g[DAYS] >> (k % 16 * 2)) % 4]
 }
 
 // The graph has the edge of a label's index between two places.
@@ -110,7 +118,8 @@ fn spread(g: &mut Graph, seed: &mut u64) {
     }
 }
 
-// A graph of so many places and edge labels, each edge drawn so many times of a hundred; every second has labels on its vertices.
+// A graph of so many places and edge labels, each edge drawn so many times of a hundred; every second has labels on its vertices, and four
+// of five have days.
 pub fn draw(g: &mut Graph, places: usize, edge_labels: usize, percent: usize, seed: &mut u64) {
     *g = [0; WORDS];
     g[PLACES] = places;
@@ -118,6 +127,9 @@ pub fn draw(g: &mut Graph, places: usize, edge_labels: usize, percent: usize, se
     g[PERCENT] = percent;
     if chance(seed, 50) {
         g[LABELS] = below(seed, 4294967296);
+    }
+    if chance(seed, 80) {
+        g[DAYS] = below(seed, 4294967296);
     }
     spread(g, seed);
     draw_edges(g, seed);
@@ -131,19 +143,21 @@ pub fn random(g: &mut Graph, seed: &mut u64) {
     draw(g, places, edge_labels, percent, seed);
 }
 
-// The label of a vertex number; one that has no place has no edges, and some label.
-fn label_of_number(g: &Graph, v: usize) -> usize {
+// Writes the label and the day of a vertex number; one that has no place has no edges, and some label and day.
+fn write_vertex(g: &Graph, v: usize, file: &mut [u8], at: usize) -> usize {
     let k = place(g, v);
     if k < NO_PLACE {
-        return label(g, k);
+        let days = put_field(file, at, 16, label(g, k));
+        return put_field(file, days, 16, day(g, k));
     }
-    v % 7
+    let days = put_field(file, at, 16, v % 7);
+    put_field(file, days, 16, 65535 - v % 7)
 }
 
-fn write_labels(g: &Graph, file: &mut [u8], from: usize) -> usize {
+fn write_vertices(g: &Graph, file: &mut [u8], from: usize) -> usize {
     let mut at = from;
     for v in 0..g[VERTICES] % 65536 {
-        at = put_field(file, at, 16, label_of_number(g, v));
+        at = write_vertex(g, v, file, at);
     }
     at
 }
@@ -169,7 +183,7 @@ fn write_edges(g: &Graph, file: &mut [u8], from: usize) -> usize {
 // Writes the graph's file over zeros and answers its length in bytes.
 pub fn write(g: &Graph, file: &mut [u8]) -> usize {
     let edges = put_field(file, 0, 16, g[VERTICES]);
-    let labels = put_field(file, edges, 20, g[EDGES]);
-    let listed = write_labels(g, file, labels);
+    let vertices = put_field(file, edges, 20, g[EDGES]);
+    let listed = write_vertices(g, file, vertices);
     bytes_for(write_edges(g, file, listed))
 }

@@ -24,6 +24,9 @@ const JOINED: usize = 3;
 
 const LISTED: usize = 4;
 
+// Three bits of this word for each vertex choose its range of days; 0 chooses the whole range.
+pub const RANGES: usize = 5;
+
 const NEXT_TO: usize = 8;
 
 const LIST: usize = 16;
@@ -80,6 +83,22 @@ pub fn edge(q: &Query, i: usize) -> usize {
 
 pub fn label(q: &Query, v: usize) -> usize {
     graphs::vertex_label(q[LABELS], v)
+}
+
+// The range of days of a vertex, as an index of the two lists below.
+fn range(q: &Query, v: usize) -> usize {
+    (q[RANGES] >> (v % 8 * 3)) % 8
+}
+
+// The first and the last day that the item of a vertex may have.
+pub fn first_day(q: &Query, v: usize) -> usize {
+    let firsts = [0, 0, 0, 0, 1, 9447, 9448, 9448];
+    firsts[range(q, v) % 8]
+}
+
+pub fn last_day(q: &Query, v: usize) -> usize {
+    let lasts = [65535, 65534, 9447, 0, 65535, 9448, 65535, 9448];
+    lasts[range(q, v) % 8]
 }
 
 // The set of the vertices that an edge joins to v.
@@ -185,6 +204,15 @@ fn random_labels(seed: &mut u64) -> usize {
     words[below(seed, 6) % 6]
 }
 
+// Ranges of days on some of n vertices, in every second query.
+fn random_ranges(n: usize, seed: &mut u64) -> usize {
+    let words = 1usize << (n % 16 * 3);
+    if chance(seed, 50) {
+        return 0;
+    }
+    below(seed, words) & below(seed, words)
+}
+
 // 2 to 8 vertices; no more than so many places, unless edges may be any.
 fn random_vertices(places: usize, any: bool, seed: &mut u64) -> usize {
     let n = add(2, below(seed, 7));
@@ -199,14 +227,22 @@ pub fn random(q: &mut Query, g: &Graph, seed: &mut u64) {
     let any = chance(seed, 25);
     start(q, random_vertices(g[graphs::PLACES], any, seed));
     q[LABELS] = random_labels(seed);
+    q[RANGES] = random_ranges(q[VERTICES], seed);
     let more = below(seed, 20);
     join_vertices(q, g, any, more, seed);
 }
 
-fn write_labels(q: &Query, file: &mut [u8], from: usize) -> usize {
+// Writes the label of a vertex, and its first and its last day.
+fn write_vertex(q: &Query, v: usize, file: &mut [u8], at: usize) -> usize {
+    let first = put_field(file, at, 16, label(q, v));
+    let last = put_field(file, first, 16, first_day(q, v));
+    put_field(file, last, 16, last_day(q, v))
+}
+
+fn write_vertices(q: &Query, file: &mut [u8], from: usize) -> usize {
     let mut at = from;
     for v in 0..q[VERTICES] % 16 {
-        at = put_field(file, at, 16, label(q, v));
+        at = write_vertex(q, v, file, at);
     }
     at
 }
@@ -234,7 +270,7 @@ fn write_edges(q: &mut Query, file: &mut [u8], from: usize) -> usize {
 // Lists the edges of a query that was just made, writes its file over zeros, and answers the file's length in bytes.
 pub fn write(q: &mut Query, file: &mut [u8]) -> usize {
     let edges = put_field(file, 0, 4, q[VERTICES]);
-    let labels = put_field(file, edges, 5, q[EDGES]);
-    let listed = write_labels(q, file, labels);
+    let vertices = put_field(file, edges, 5, q[EDGES]);
+    let listed = write_vertices(q, file, vertices);
     bytes_for(write_edges(q, file, listed))
 }

@@ -11,9 +11,9 @@ use Rattle.query.specs.File.{queryOf, queryFault}
 use Rattle.plan.specs.Check.{joinable, ruleFault, covered, endFault, rulesFault}
 use Rattle.plan.specs.File.{place, operatorsOf, planFault, checkFault}
 
--- The triangle 0→1, 0→2, 1→2.
+-- The triangle 0→1, 0→2, 1→2, its vertices of any label and day.
 pub triangle : List ℕ
-triangle = 49 ∷ 128 ∷ 0 ∷ 0 ∷ 0 ∷ 0 ∷ 0 ∷ 2 ∷ 2 ∷ 16 ∷ 9 ∷ 64 ∷ 32 ∷ []
+triangle = 49 ∷ 128 ∷ 0 ∷ 0 ∷ 0 ∷ 127 ∷ 255 ∷ 128 ∷ 0 ∷ 0 ∷ 0 ∷ 127 ∷ 255 ∷ 128 ∷ 0 ∷ 0 ∷ 0 ∷ 127 ∷ 255 ∷ 130 ∷ 2 ∷ 16 ∷ 9 ∷ 64 ∷ 32 ∷ []
 
 pub plans : List (List ℕ)
 plans =

@@ -72,7 +72,7 @@ module _ (store : List ℕ) (accepted : storeFault store ≡ 0) where
       let past = drop (storeSize g) store in
       let at : from ≡ sideStart forward g + (suc (g .vertices) + 0) = omega (arith, store-vertices store accepted) in
       ap₂ (λ (k : ℕ) (s : List ℕ). take (edgesIn store) (drop k s)) at (store-whole store accepted)
-      ∙ ap (take (edgesIn store)) (store-entries g (w .labelled) past forward 0 (omega arith))
+      ∙ ap (take (edgesIn store)) (store-entries g (w .described) past forward 0 (omega arith))
       ∙ take-at (entries forward g) (sideEnd forward g past) (edgesIn store) (length-entries forward g ∙ sym (store-edges store accepted))
       ∙ forward-entries g w
 

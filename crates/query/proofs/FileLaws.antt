@@ -7,15 +7,15 @@ use native.Mathlib.Numerals.{add-one}
 use native.Mathlib.Omega.{arith}
 use lib.Dec.{ltb}
 use lib.ListN.{length}
-use borrow.Author.Tests.{ltb-true, ltb-false, lt-ltb, le-ltb}
+use borrow.Author.Tests.{ltb-true, ltb-false, lt-ltb, le-ltb, eqb-false}
 use Rattle.lists.specs.Lists.{range}
 use Rattle.lists.specs.Refusal.{refuse, first}
 use Rattle.lists.proofs.Faults.{first-head, first-tail, first-cons, refuse-zero, zero-refuse, first-some, first-one, first-group, first-after, first-stop, first-next}
 use Rattle.packed.specs.Field.{fieldAt, bitsIn, bytesFor}
 use Rattle.packed.proofs.Laws.{field-add, field-lt}
 use Rattle.query.specs.Query.{connected}
-use Rattle.query.specs.File.{vertexCount, edgeCount, edgeStart, edgeIn, queryOf, outsideLimits, key, edgeFault, queryFault}
-use Rattle.query.specs.inner.Parts.{sizeFault, edgeFrom, keyFault, queryEdgesFault, queryFileFault, Readable}
+use Rattle.query.specs.File.{vertexCount, edgeCount, firstIn, lastIn, edgeStart, edgeIn, queryOf, outsideLimits, dayFault, key, edgeFault, queryFault}
+use Rattle.query.specs.inner.Parts.{sizeFault, edgeFrom, keyFault, queryDaysFault, queryEdgesFault, queryFileFault, Readable}
 use Rattle.query.specs.Answer.{structOf}
 use Rattle.query.specs.inner.Struct.{Held}
 use Rattle.query.proofs.Structs.{held}
@@ -47,9 +47,9 @@ edge-by-key s zero = rw (le-ltb (key (edgeIn s 0)) 0 (omega arith)) refl
 edge-by-key s (suc i) = rw (later (key (edgeIn s i)) (key (edgeIn s (suc i)))) refl
 
 -- What the code reads of edge i, at its place in the file.
-module _ (s : List ℕ) (n at i : ℕ) (count : n ≡ vertexCount s) (place : at ≡ 9 + 16 * n + 14 * i) where
+module _ (s : List ℕ) (n at i : ℕ) (count : n ≡ vertexCount s) (place : at ≡ 9 + 48 * n + 14 * i) where
   edge-here : edgeFrom s at ≡ edgeIn s i
-  edge-here = ap (edgeFrom s) (place ∙ ap (λ (k : ℕ). 9 + 16 * k + 14 * i) count)
+  edge-here = ap (edgeFrom s) (place ∙ ap (λ (k : ℕ). 9 + 48 * k + 14 * i) count)
 
   pub fault-here : (least fault : ℕ) → least ≡ leastKey s i → fault ≡ keyFault n least (edgeFrom s at) → fault ≡ edgeFault s i
   fault-here least fault l f =
@@ -58,6 +58,18 @@ module _ (s : List ℕ) (n at i : ℕ) (count : n ≡ vertexCount s) (place : at
   pub least-next : (k : ℕ) → k ≡ key (edgeFrom s at) → k + 1 ≡ leastKey s (i + 1)
   unfolding leastKey
   least-next k e = rw (add-one i) (ap (λ (j : ℕ). j + 1) (e ∙ ap key edge-here))
+
+-- The faults of the first vertices: one vertex more, and the first at fault.
+module _ (s : List ℕ) (w : ℕ) (none : queryDaysFault s w ≡ 0) where
+  pub days-next : firstIn s w ≤ lastIn s w → queryDaysFault s (w + 1) ≡ 0
+  unfolding queryDaysFault
+  days-next h = first-next (dayFault s) w none (zero-refuse 25 _ (le-ltb (lastIn s w) (firstIn s w) h))
+
+  pub days-stop : (n : ℕ) → w < n → lastIn s w < firstIn s w → queryDaysFault s n ≡ 25
+  unfolding queryDaysFault
+  days-stop n l h =
+      let here : dayFault s w ≡ 25 = ap (refuse 25) (lt-ltb (lastIn s w) (firstIn s w) h) in
+      first-stop (dayFault s) n w l none (λ z. eqb-false 25 0 refl (sym here ∙ z)) ∙ here
 
 -- The faults of the first edges: one edge more, and the first edge at fault.
 pub edges-next : (s : List ℕ) (i : ℕ) → queryEdgesFault s i ≡ 0 → edgeFault s i ≡ 0 → queryEdgesFault s (i + 1) ≡ 0
@@ -70,14 +82,16 @@ edges-stop s m i = first-stop (edgeFault s) m i
 
 -- Read query's refusal: the first fault of the file, then 11.
 query-parts : (s : List ℕ) → queryFault s ≡ first (queryFileFault s ∷ refuse 11 (not (connected (queryOf s))) ∷ [])
-unfolding queryFault queryFileFault queryEdgesFault
-query-parts s = regroup _ _ _ _ _ _ (map (edgeFault s) (range (edgeCount s)))
+unfolding queryFault queryFileFault queryDaysFault queryEdgesFault
+query-parts s = regroup _ _ _ _ _ _ (map (dayFault s) (range (vertexCount s))) (map (edgeFault s) (range (edgeCount s)))
   where
-    regroup : (a b c d e f : ℕ) (es : List ℕ)
-        → first (a ∷ b ∷ c ∷ d ∷ e ∷ (es ++ (f ∷ []))) ≡ first (first (a ∷ b ∷ first (c ∷ d ∷ e ∷ []) ∷ first es ∷ []) ∷ f ∷ [])
-    regroup a b c d e f es =
-        first-after a _ _ (first-after b _ _ (first-group (c ∷ d ∷ e ∷ []) (es ++ (f ∷ [])) ∙ first-after (first (c ∷ d ∷ e ∷ [])) _ _ (first-group es (f ∷ []))))
-        ∙ first-group (a ∷ b ∷ first (c ∷ d ∷ e ∷ []) ∷ first es ∷ []) (f ∷ [])
+    regroup : (a b c d e f : ℕ) (ds es : List ℕ)
+        → first (a ∷ b ∷ c ∷ d ∷ e ∷ (ds ++ (es ++ (f ∷ [])))) ≡ first (first (a ∷ b ∷ first (c ∷ d ∷ e ∷ []) ∷ first ds ∷ first es ∷ []) ∷ f ∷ [])
+    regroup a b c d e f ds es =
+        let size = first (c ∷ d ∷ e ∷ []) in
+        let after-size = first-group ds (es ++ (f ∷ [])) ∙ first-after (first ds) _ _ (first-group es (f ∷ [])) in
+        first-after a _ _ (first-after b _ _ (first-group (c ∷ d ∷ e ∷ []) (ds ++ (es ++ (f ∷ []))) ∙ first-after size _ _ after-size))
+        ∙ first-group (a ∷ b ∷ size ∷ first ds ∷ first es ∷ []) (f ∷ [])
 
 pub query-first : (s : List ℕ) → (queryFileFault s ≡ 0 → ⊥) → queryFault s ≡ queryFileFault s
 query-first s d = query-parts s ∙ first-some (queryFileFault s) _ d
@@ -85,14 +99,14 @@ query-first s d = query-parts s ∙ first-some (queryFileFault s) _ d
 pub query-last : (s : List ℕ) → queryFileFault s ≡ 0 → queryFault s ≡ refuse 11 (not (connected (queryOf s)))
 query-last s e = query-parts s ∙ first-cons (queryFileFault s) _ e ∙ first-one (refuse 11 (not (connected (queryOf s))))
 
--- The faults of a file of two bytes or more, one after the other: 8, then 6 and 7, then 9 and 10.
+-- The faults of a file of two bytes or more, one after the other: 8, then 6 and 7, then 25, then 9 and 10.
 module _ (s : List ℕ) where
   pub short-first : length s < 2 → queryFileFault s ≡ 6
   unfolding queryFileFault first
   short-first h = rw (lt-ltb (length s) 2 h) refl
 
   module _ (long : 2 ≤ length s) where
-    after-short : queryFileFault s ≡ first (refuse 8 (outsideLimits s) ∷ sizeFault s (edgeStart s (edgeCount s)) ∷ queryEdgesFault s (edgeCount s) ∷ [])
+    after-short : queryFileFault s ≡ first (refuse 8 (outsideLimits s) ∷ sizeFault s (edgeStart s (edgeCount s)) ∷ queryDaysFault s (vertexCount s) ∷ queryEdgesFault s (edgeCount s) ∷ [])
     unfolding queryFileFault
     after-short = first-cons (refuse 6 (ltb (length s) 2)) _ (zero-refuse 6 (ltb (length s) 2) (le-ltb (length s) 2 long))
 
@@ -100,14 +114,21 @@ module _ (s : List ℕ) where
     limits-first d = after-short ∙ first-some (refuse 8 (outsideLimits s)) _ d
 
     module _ (within : outsideLimits s ≡ false) where
-      after-limits : queryFileFault s ≡ first (sizeFault s (edgeStart s (edgeCount s)) ∷ queryEdgesFault s (edgeCount s) ∷ [])
+      after-limits : queryFileFault s ≡ first (sizeFault s (edgeStart s (edgeCount s)) ∷ queryDaysFault s (vertexCount s) ∷ queryEdgesFault s (edgeCount s) ∷ [])
       after-limits = after-short ∙ first-cons (refuse 8 (outsideLimits s)) _ (zero-refuse 8 (outsideLimits s) within)
 
       pub size-first : (sizeFault s (edgeStart s (edgeCount s)) ≡ 0 → ⊥) → queryFileFault s ≡ sizeFault s (edgeStart s (edgeCount s))
       size-first d = after-limits ∙ first-some (sizeFault s (edgeStart s (edgeCount s))) _ d
 
-      pub edges-last : sizeFault s (edgeStart s (edgeCount s)) ≡ 0 → queryFileFault s ≡ queryEdgesFault s (edgeCount s)
-      edges-last e = after-limits ∙ first-cons (sizeFault s (edgeStart s (edgeCount s))) _ e ∙ first-one (queryEdgesFault s (edgeCount s))
+      module _ (sized : sizeFault s (edgeStart s (edgeCount s)) ≡ 0) where
+        after-size : queryFileFault s ≡ first (queryDaysFault s (vertexCount s) ∷ queryEdgesFault s (edgeCount s) ∷ [])
+        after-size = after-limits ∙ first-cons (sizeFault s (edgeStart s (edgeCount s))) _ sized
+
+        pub days-first : (queryDaysFault s (vertexCount s) ≡ 0 → ⊥) → queryFileFault s ≡ queryDaysFault s (vertexCount s)
+        days-first d = after-size ∙ first-some (queryDaysFault s (vertexCount s)) _ d
+
+        pub edges-last : queryDaysFault s (vertexCount s) ≡ 0 → queryFileFault s ≡ queryEdgesFault s (edgeCount s)
+        edges-last e = after-size ∙ first-cons (queryDaysFault s (vertexCount s)) _ e ∙ first-one (queryEdgesFault s (edgeCount s))
 
   -- A file of the size that its bits ask for has them.
   pub size-bits : (b : ℕ) → sizeFault s b ≡ 0 → b ≤ bitsIn s
@@ -117,7 +138,7 @@ module _ (s : List ℕ) where
 pub file-readable : (s : List ℕ) → queryFileFault s ≡ 0 → Readable s
 unfolding queryFileFault
 file-readable s e =
-    let rest : first (refuse 8 (outsideLimits s) ∷ sizeFault s (edgeStart s (edgeCount s)) ∷ queryEdgesFault s (edgeCount s) ∷ []) ≡ 0 = first-tail _ _ e in
+    let rest : first (refuse 8 (outsideLimits s) ∷ sizeFault s (edgeStart s (edgeCount s)) ∷ queryDaysFault s (vertexCount s) ∷ queryEdgesFault s (edgeCount s) ∷ []) ≡ 0 = first-tail _ _ e in
     record {
       limits = refuse-zero 7 _ (first-head _ _ rest);
       bits = size-bits s (edgeStart s (edgeCount s)) (first-head _ _ (first-tail _ _ rest));

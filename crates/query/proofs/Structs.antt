@@ -1,11 +1,12 @@
 -- Laws of a query as the code has it. Assumes nothing.
-use mathlib.Core.Path.{_≡_, refl, sym, _∙_, ap}
+use mathlib.Core.Path.{_≡_, refl, sym, _∙_, ap, ap₂}
 use mathlib.Core.Bool.{true, false, _&&_}
 use mathlib.Core.List.{List, map, map-map}
 use Prim.Native.Nat.{ℕ, _+_, _*_, _≤_, _<_}
 use native.Mathlib.Omega.{arith}
-use lib.Dec.{leb, ltb}
+use lib.Dec.{eqb, leb, ltb}
 use lib.ListN.{length, getD, take, length-map, List·getD-map}
+use lib.Seq.{getD-take}
 use borrow.Author.Tests.{leb-true, lt-ltb}
 use Rattle.lists.specs.Lists.{range, all}
 use Rattle.lists.proofs.Tests.{and-l, and-r, not-false}
@@ -14,12 +15,12 @@ use Rattle.lists.proofs.Count.{all-map}
 use Rattle.lists.proofs.Maps.{map-indices, length-image, getD-image, image-ext}
 use Rattle.packed.specs.Field.{fieldAt}
 use Rattle.packed.proofs.Laws.{field-lt}
-use Rattle.graph.specs.Graph.{Edge}
-use Rattle.query.specs.Query.{Query, edgeAt}
-use Rattle.query.specs.File.{minVertices, maxVertices, minEdges, maxEdges, vertexCount, edgeCount, edgeStart, edgeIn, queryOf, outsideLimits}
-use Rattle.query.specs.inner.Parts.{labelIn, edgeField}
+use Rattle.graph.specs.Graph.{Edge, maxDay}
+use Rattle.query.specs.Query.{Query, wanted, firstDay, lastDay, edgeAt}
+use Rattle.query.specs.File.{minVertices, maxVertices, minEdges, maxEdges, vertexCount, edgeCount, labelIn, firstIn, lastIn, edgeStart, edgeIn, queryOf, outsideLimits}
+use Rattle.query.specs.inner.Parts.{vertexField, edgeField}
 use Rattle.query.specs.Answer.{padded, structOf}
-use Rattle.query.specs.inner.Struct.{edgeStruct, asEdge, edgeOf, queryIn, Held}
+use Rattle.query.specs.inner.Struct.{edgeStruct, asEdge, edgeOf, queryIn, Held, filterOf}
 use Rattle.query.specs.declared.Edge.{Edge as EdgeStruct}
 use Rattle.query.specs.declared.Query.{Query as QueryStruct}
 use Rattle.query.proofs.Images.{getD-padded, take-padded}
@@ -48,14 +49,38 @@ edge-of q i h =
         ∙ ap (getD (map f (q .edges)) i) (sym z) ∙ List·getD-map f (q .edges) i noEdge
 
 -- A struct holds the query that it was made of.
-pub in-struct : (q : Query) → length (q .labels) ≡ q .vertices → queryIn (structOf q) ≡ q
+pub in-struct : (q : Query) → length (q .labels) ≡ q .vertices → length (q .firsts) ≡ q .vertices → length (q .lasts) ≡ q .vertices
+    → queryIn (structOf q) ≡ q
 unfolding queryIn structOf
-in-struct q e =
+in-struct q l f t =
     λ k. record {
       vertices = q .vertices;
-      labels = (ap (λ (n : ℕ). take n (padded maxVertices (q .labels))) (sym e) ∙ take-padded maxVertices (q .labels)) k;
+      labels = taken (q .labels) l k;
+      firsts = taken (q .firsts) f k;
+      lasts = taken (q .lasts) t k;
       edges = map-indices (edgeOf (structOf q)) (q .edges) _ (edge-of q) k;
     }
+  where
+    taken : (xs : List ℕ) → length xs ≡ q .vertices → take (q .vertices) (padded maxVertices xs) ≡ xs
+    taken xs e = ap (λ (n : ℕ). take n (padded maxVertices xs)) (sym e) ∙ take-padded maxVertices xs
+
+-- What `filter` returns of a vertex below the count.
+module _ (d : QueryStruct) (w : ℕ) (h : w < d .vertices) where
+  pub filter-label : filterOf d w .label ≡ wanted (queryIn d) w
+  unfolding filterOf queryIn
+  filter-label = sym (getD-take (d .vertices) (d .labels) w 0 h)
+
+  pub filter-first : filterOf d w .first ≡ firstDay (queryIn d) w
+  unfolding filterOf queryIn
+  filter-first = sym (getD-take (d .vertices) (d .firsts) w 0 h)
+
+  pub filter-last : filterOf d w .last ≡ lastDay (queryIn d) w
+  unfolding filterOf queryIn
+  filter-last = sym (getD-take (d .vertices) (d .lasts) w 0 h)
+
+  pub filter-any : filterOf d w .«any_day» ≡ (eqb (firstDay (queryIn d) w) 0 && eqb (lastDay (queryIn d) w) maxDay)
+  unfolding filterOf queryIn
+  filter-any = ap₂ (λ (a b : ℕ). eqb a 0 && eqb b maxDay) (sym (getD-take (d .vertices) (d .firsts) w 0 h)) (sym (getD-take (d .vertices) (d .lasts) w 0 h))
 
 -- ---- the query of a file
 
@@ -79,10 +104,11 @@ module _ (s : List ℕ) (ok : outsideLimits s ≡ false) where
   pub at-most-edges : edgeCount s ≤ maxEdges
   at-most-edges = leb-true (edgeCount s) maxEdges (search (and-r, within))
 
--- A file's query has a label for each vertex, so that its struct holds it.
+-- A file's query has a label and two days for each vertex, so that its struct holds it.
 pub file-struct : (s : List ℕ) → queryIn (structOf (queryOf s)) ≡ queryOf s
 unfolding queryOf
-file-struct s = in-struct (queryOf s) (length-image (λ (w : ℕ). fieldAt s (9 + 16 * w) 16) (vertexCount s))
+file-struct s =
+    in-struct (queryOf s) (length-image (labelIn s) (vertexCount s)) (length-image (firstIn s) (vertexCount s)) (length-image (lastIn s) (vertexCount s))
 
 -- Its labels are bytes.
 pub file-labels : (s : List ℕ) → all (λ (e : Edge). ltb (e .label) 256) (queryOf s .edges) ≡ true
@@ -97,7 +123,7 @@ unfolding queryOf
 file-edge s i h = getD-image (edgeIn s) (edgeCount s) i _ h
 
 -- The struct that is read field by field from a file of n vertices and m edges, where edge 0 is at a bit position.
-module _ (s : List ℕ) (n m at : ℕ) (vertices : n ≡ vertexCount s) (edges : m ≡ edgeCount s) (place : at ≡ 9 + 16 * n + 14 * 0) where
+module _ (s : List ℕ) (n m at : ℕ) (vertices : n ≡ vertexCount s) (edges : m ≡ edgeCount s) (place : at ≡ 9 + 48 * n) where
   field-read : (o w : ℕ) (f : Edge → ℕ) → ((i : ℕ) → fieldAt s (edgeStart s i + o) w ≡ f (edgeIn s i))
       → map (edgeField s at o w) (range m) ≡ map f (map (edgeIn s) (range (edgeCount s)))
   field-read o w f h =
@@ -105,16 +131,22 @@ module _ (s : List ℕ) (n m at : ℕ) (vertices : n ≡ vertexCount s) (edges :
       ∙ image-ext (edgeField s at o w) (λ (i : ℕ). f (edgeIn s i)) (edgeCount s) (λ i l. ap (λ (k : ℕ). fieldAt s k w) (omega arith) ∙ h i)
       ∙ sym (map-map f (edgeIn s) (range (edgeCount s)))
 
-  pub struct-read : (ls ss ts es : List ℕ) → ls ≡ padded maxVertices (map (labelIn s) (range n))
+  vertex-read : (o : ℕ) (f : ℕ → ℕ) → ((w : ℕ) → vertexField s o w ≡ f w) → map (vertexField s o) (range n) ≡ map f (range (vertexCount s))
+  vertex-read o f h = ap (λ (k : ℕ). map (vertexField s o) (range k)) vertices ∙ image-ext (vertexField s o) f (vertexCount s) (λ w l. h w)
+
+  pub struct-read : (ls fs us ss ts es : List ℕ) → ls ≡ padded maxVertices (map (vertexField s 0) (range n))
+      → fs ≡ padded maxVertices (map (vertexField s 16) (range n)) → us ≡ padded maxVertices (map (vertexField s 32) (range n))
       → ss ≡ padded maxEdges (map (edgeField s at 0 3) (range m)) → ts ≡ padded maxEdges (map (edgeField s at 3 3) (range m))
       → es ≡ padded maxEdges (map (edgeField s at 6 8) (range m))
-      → record { vertices = n; edges = m; labels = ls; sources = ss; targets = ts; «edge_labels» = es } ≡ structOf (queryOf s)
+      → record { vertices = n; edges = m; labels = ls; firsts = fs; lasts = us; sources = ss; targets = ts; «edge_labels» = es } ≡ structOf (queryOf s)
   unfolding structOf queryOf
-  struct-read ls ss ts es hl hs ht he =
+  struct-read ls fs us ss ts es hl hf hu hs ht he =
       λ k. record {
         vertices = vertices k;
         edges = (edges ∙ sym (length-image (edgeIn s) (edgeCount s))) k;
-        labels = (hl ∙ ap (λ (j : ℕ). padded maxVertices (map (labelIn s) (range j))) vertices) k;
+        labels = (hl ∙ ap (padded maxVertices) (vertex-read 0 (labelIn s) (λ w. ap (λ (j : ℕ). fieldAt s j 16) (omega arith)))) k;
+        firsts = (hf ∙ ap (padded maxVertices) (vertex-read 16 (firstIn s) (λ w. refl))) k;
+        lasts = (hu ∙ ap (padded maxVertices) (vertex-read 32 (lastIn s) (λ w. refl))) k;
         sources = (hs ∙ ap (padded maxEdges) (field-read 0 3 (λ (e : Edge). e .source) (λ i. ap (λ (j : ℕ). fieldAt s j 3) (omega arith)))) k;
         targets = (ht ∙ ap (padded maxEdges) (field-read 3 3 (λ (e : Edge). e .target) (λ i. refl))) k;
         «edge_labels» = (he ∙ ap (padded maxEdges) (field-read 6 8 (λ (e : Edge). e .label) (λ i. refl))) k;

@@ -21,6 +21,8 @@ structOf q =
       vertices = q .vertices;
       edges = length (q .edges);
       labels = padded maxVertices (q .labels);
+      firsts = padded maxVertices (q .firsts);
+      lasts = padded maxVertices (q .lasts);
       sources = padded maxEdges (map (λ (e : Edge). e .source) (q .edges));
       targets = padded maxEdges (map (λ (e : Edge). e .target) (q .edges));
       «edge_labels» = padded maxEdges (map (λ (e : Edge). e .label) (q .edges));
@@ -28,7 +30,7 @@ structOf q =
 
 -- The query of a refused file: 'every other number 0'.
 abbrev pub noQuery : Query
-noQuery = record { vertices = 0; labels = []; edges = [] }
+noQuery = record { vertices = 0; labels = []; firsts = []; lasts = []; edges = [] }
 
 -- 'Accepted, .. Read query' gives 'the query', refused 'its number, with every other number 0'.
 unfoldable pub readAnswer : List ℕ → ReadQuery

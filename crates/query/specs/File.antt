@@ -1,5 +1,6 @@
--- The query file: 'n vertices (4 bits, 2 to 8), m edges (5 bits, 1 to 24), n vertex labels (16), then m edges of from (3),
--- to (3), label (8), ascending strictly', and the faults for which Read query refuses one. Assumes nothing.
+-- The query file: 'n vertices (4 bits, 2 to 8), m edges (5 bits, 1 to 24), n vertex labels (16)', each 'followed by a first and a last
+-- day (16 bits each)', 'then m edges of from (3), to (3), label (8), ascending strictly', and the faults for which Read query refuses one.
+-- Assumes nothing.
 use mathlib.Core.Bool.{Bool, true, not, _&&_, _||_}
 use mathlib.Core.List.{List, [], _∷_, _++_, map}
 use Prim.Native.Nat.{ℕ, zero, suc, _+_, _*_}
@@ -30,8 +31,22 @@ vertexCount s = fieldAt s 0 4
 abbrev pub edgeCount : List ℕ → ℕ
 edgeCount s = fieldAt s 4 5
 
+-- Where vertex w begins, with its label and then its first and its last day.
+abbrev pub vertexStart : ℕ → ℕ
+vertexStart w = 9 + 48 * w
+
+abbrev pub labelIn : List ℕ → ℕ → ℕ
+labelIn s w = fieldAt s (vertexStart w) 16
+
+abbrev pub firstIn : List ℕ → ℕ → ℕ
+firstIn s w = fieldAt s (vertexStart w + 16) 16
+
+abbrev pub lastIn : List ℕ → ℕ → ℕ
+lastIn s w = fieldAt s (vertexStart w + 32) 16
+
+-- Where edge i begins.
 abbrev pub edgeStart : List ℕ → ℕ → ℕ
-edgeStart s i = 9 + 16 * vertexCount s + 14 * i
+edgeStart s i = 9 + 48 * vertexCount s + 14 * i
 
 abbrev pub edgeIn : List ℕ → ℕ → Edge
 edgeIn s i =
@@ -46,7 +61,9 @@ unfoldable pub queryOf : List ℕ → Query
 queryOf s =
     record {
       vertices = vertexCount s;
-      labels = map (λ (w : ℕ). fieldAt s (9 + 16 * w) 16) (range (vertexCount s));
+      labels = map (labelIn s) (range (vertexCount s));
+      firsts = map (firstIn s) (range (vertexCount s));
+      lasts = map (lastIn s) (range (vertexCount s));
       edges = map (edgeIn s) (range (edgeCount s));
     }
 
@@ -58,6 +75,10 @@ outsideLimits s =
 
 abbrev pub fileSize : List ℕ → ℕ
 fileSize s = bytesFor (edgeStart s (edgeCount s))
+
+-- '25, a query vertex whose first day is above its last', of one vertex.
+abbrev pub dayFault : List ℕ → ℕ → ℕ
+dayFault s w = refuse 25 (ltb (lastIn s w) (firstIn s w))
 
 -- '9 a vertex not below n, equal ends.' No edge label is turned away.
 abbrev pub badEdge : ℕ → Edge → Bool
@@ -76,8 +97,8 @@ ascends s (suc i) = ltb (key (edgeIn s i)) (key (edgeIn s (suc i)))
 abbrev pub edgeFault : List ℕ → ℕ → ℕ
 edgeFault s i = first (refuse 9 (badEdge (vertexCount s) (edgeIn s i)) ∷ refuse 10 (not (ascends s i)) ∷ [])
 
--- '6 under 2 bytes; 8 n or m outside its limits; 6 shorter than its own size; 7 longer, or a fill bit set; then by edge, 9
--- .., 10 ..; 11 not connected.'
+-- '6 under 2 bytes; 8 n or m outside its limits; 6 shorter than its own size; 7 longer, or a fill bit set'; 25 'after the lengths and
+-- before the edges'; 'then by edge, 9 .., 10 ..; 11 not connected.'
 unfoldable pub queryFault : List ℕ → ℕ
 queryFault s =
     first
@@ -86,4 +107,5 @@ queryFault s =
     ∷ refuse 6 (ltb (length s) (fileSize s))
     ∷ refuse 7 (ltb (fileSize s) (length s))
     ∷ refuse 7 (fillSet s (edgeStart s (edgeCount s)))
-    ∷ (map (edgeFault s) (range (edgeCount s)) ++ (refuse 11 (not (connected (queryOf s))) ∷ [])))
+    ∷ (map (dayFault s) (range (vertexCount s))
+    ++ (map (edgeFault s) (range (edgeCount s)) ++ (refuse 11 (not (connected (queryOf s))) ∷ []))))

@@ -7,14 +7,24 @@ use lib.ListN.{getD}
 use Rattle.lists.specs.Lists.{range, all, any, keep}
 use Rattle.graph.specs.Graph.{Edge}
 
+-- Vertices with a label and a first and a last day each, and edges in the file's order.
 pub record Query : Type 0 where
   pub vertices : ℕ
   pub labels : List ℕ
+  pub firsts : List ℕ
+  pub lasts : List ℕ
   pub edges : List Edge
 
 -- A query vertex's label; 0 fits every data vertex.
 abbrev pub wanted : Query → ℕ → ℕ
 wanted q w = getD (q .labels) w 0
+
+-- The first and the last day that an item of a query vertex may have, 'both inclusive'.
+abbrev pub firstDay : Query → ℕ → ℕ
+firstDay q w = getD (q .firsts) w 0
+
+abbrev pub lastDay : Query → ℕ → ℕ
+lastDay q w = getD (q .lasts) w 0
 
 -- The query edge of an index.
 abbrev pub edgeAt : Query → ℕ → Edge

@@ -1,4 +1,4 @@
-// The query file: n (4 bits), m (5), n labels (16), then m edges of from (3), to (3), label (8).
+// The query file: n (4 bits), m (5), n vertices of label (16), first day (16), last day (16), then m edges of from (3), to (3), label (8).
 use crate::Query;
 use packed::bytes_for;
 use packed::field;
@@ -9,8 +9,8 @@ ghost use Prim.Native.Nat.{_+_, _*_, _^_, _≤_, _<_};
 ghost use lib.ListN.{length};
 ghost use Rattle.lists.specs.Lists.{range};
 ghost use Rattle.packed.specs.Field.{bitsIn};
-ghost use Rattle.query.specs.File.{maxVertices, maxEdges, vertexCount, edgeCount, edgeStart, key};
-ghost use Rattle.query.specs.inner.Parts.{labelIn, edgeField, limitsFault, sizeFault, edgeFrom, keyFault, queryEdgesFault, queryFileFault};
+ghost use Rattle.query.specs.File.{maxVertices, maxEdges, vertexCount, edgeCount, vertexStart, edgeStart, key};
+ghost use Rattle.query.specs.inner.Parts.{vertexField, edgeField, limitsFault, sizeFault, edgeFrom, keyFault, queryDaysFault, queryEdgesFault, queryFileFault};
 ghost use Rattle.query.specs.Answer.{padded};
 
 pub fn vertex_count(file: &[u8]) -> usize
@@ -30,9 +30,9 @@ pub fn edge_count(file: &[u8]) -> usize
 // The bit position of edge i in a file of n vertices.
 pub fn edge_start(n: usize, i: usize) -> usize
     requires { ⌜ (n ≤ maxVertices) × (i ≤ maxEdges) ⌝ }
-    ensures { λ r. ⌜ r ≡ 9 + 16 * n + 14 * i ⌝ }
+    ensures { λ r. ⌜ r ≡ 9 + 48 * n + 14 * i ⌝ }
 {
-    9 + 16 * n + 14 * i
+    9 + 48 * n + 14 * i
 }
 
 // 8 where n or m is outside its limits, else 0.
@@ -68,6 +68,23 @@ fn size_fault(file: &[u8], bits: usize) -> u32
     }
     if fill_set(file, bits) {
         return 7;
+    }
+    0
+}
+
+// 25 of the first of the n vertices whose first day is above its last, else 0.
+fn days_fault(file: &[u8], n: usize) -> u32
+    requires { ⌜ (n ≤ maxVertices) × (vertexStart n ≤ bitsIn (now file)) ⌝ }
+    ensures { λ r. ⌜ r ≡ queryDaysFault (now (file .entry)) n ⌝ }
+{
+    let mut w = 0;
+    while w < n {
+        let first = field(file, 9 + 48 * w + 16, 16);
+        let last = field(file, 9 + 48 * w + 32, 16);
+        if last < first {
+            return 25;
+        }
+        w += 1;
     }
     0
 }
@@ -139,18 +156,22 @@ pub fn file_fault(file: &[u8]) -> u32
     if size != 0 {
         return size;
     }
+    let days = days_fault(file, n);
+    if days != 0 {
+        return days;
+    }
     edges_fault(file, n, m)
 }
 
-// The labels of the n vertices of a file; 0 past them.
-pub fn labels(file: &[u8], n: usize) -> [u32; Query::MAX_VERTICES]
-    requires { ⌜ (n ≤ maxVertices) × (9 + 16 * n ≤ bitsIn (now file)) ⌝ }
-    ensures { λ r. ⌜ r ≡ padded maxVertices (map (labelIn (now (file .entry))) (range n)) ⌝ }
+// One field of each of the n vertices of a file: 16 bits, `offset` bits past the vertex's start; 0 past them.
+pub fn vertex_fields(file: &[u8], n: usize, offset: usize) -> [u32; Query::MAX_VERTICES]
+    requires { ⌜ (offset + 16 ≤ 48) × (n ≤ maxVertices) × (vertexStart n ≤ bitsIn (now file)) ⌝ }
+    ensures { λ r. ⌜ r ≡ padded maxVertices (map (vertexField (now (file .entry)) offset) (range n)) ⌝ }
 {
     let mut a = [0u32; Query::MAX_VERTICES];
     let mut w = 0;
     while w < n {
-        a[w] = field(file, 9 + 16 * w, 16);
+        a[w] = field(file, 9 + 48 * w + offset, 16);
         w += 1;
     }
     a

@@ -1,14 +1,17 @@
 // The query: a small labelled graph whose vertices are to be matched. `specs/` says what a query file holds and when it is
 // refused, `proofs/` has the laws.
+use graph::Graph;
 ghost use mathlib.Core.Path.{_≡_};
-ghost use mathlib.Core.Bool.{not};
+ghost use mathlib.Core.Bool.{not, _&&_};
 ghost use Prim.Native.Nat.{ℕ, _≤_, _<_};
+ghost use lib.Dec.{eqb};
 ghost use Rattle.lists.specs.Refusal.{refuse};
+ghost use Rattle.graph.specs.Graph.{maxDay};
 ghost use Rattle.query.specs.Query.{edgeAt, among, between, reached, connected};
-ghost use Rattle.query.specs.File.{maxEdges, queryOf, queryFault};
+ghost use Rattle.query.specs.File.{maxVertices, maxEdges, queryOf, queryFault};
 ghost use Rattle.query.specs.inner.Parts.{Readable};
 ghost use Rattle.query.specs.Answer.{structOf, noQuery, readAnswer};
-ghost use Rattle.query.specs.inner.Struct.{edgeStruct, asEdge, queryIn, Held};
+ghost use Rattle.query.specs.inner.Struct.{edgeStruct, asEdge, queryIn, Held, filterOf};
 ghost use Rattle.query.specs.inner.Mask.{inMask, MaskOf, only, neighbours, withNeighbours};
 
 mod file;
@@ -20,11 +23,21 @@ pub struct Edge {
     pub label: u32,
 }
 
-// n vertices with a label each, and m edges, field by field; every number past the n-th and the m-th is 0.
+// What a query vertex asks of a data vertex: a label, 0 for any, and a day from a first to a last; any_day where the range is the whole.
+pub struct Filter {
+    pub label: u32,
+    pub first: u32,
+    pub last: u32,
+    pub any_day: bool,
+}
+
+// n vertices with a label, a first and a last day each, and m edges, field by field; every number past the n-th and the m-th is 0.
 pub struct Query {
     pub vertices: usize,
     pub edges: usize,
     pub labels: [u32; Query::MAX_VERTICES],
+    pub firsts: [u32; Query::MAX_VERTICES],
+    pub lasts: [u32; Query::MAX_VERTICES],
     pub sources: [u32; Query::MAX_EDGES],
     pub targets: [u32; Query::MAX_EDGES],
     pub edge_labels: [u32; Query::MAX_EDGES],
@@ -53,6 +66,8 @@ impl Query {
             vertices: 0,
             edges: 0,
             labels: [0; Query::MAX_VERTICES],
+            firsts: [0; Query::MAX_VERTICES],
+            lasts: [0; Query::MAX_VERTICES],
             sources: [0; Query::MAX_EDGES],
             targets: [0; Query::MAX_EDGES],
             edge_labels: [0; Query::MAX_EDGES],
@@ -66,8 +81,10 @@ impl Query {
     {
         let n = file::vertex_count(file);
         let m = file::edge_count(file);
-        let at = file::edge_start(n, 0);
-        let labels = file::labels(file, n);
+        let at = 9 + 48 * n;
+        let labels = file::vertex_fields(file, n, 0);
+        let firsts = file::vertex_fields(file, n, 16);
+        let lasts = file::vertex_fields(file, n, 32);
         let sources = file::edge_fields(file, at, m, 0, 3);
         let targets = file::edge_fields(file, at, m, 3, 3);
         let edge_labels = file::edge_fields(file, at, m, 6, 8);
@@ -75,6 +92,8 @@ impl Query {
             vertices: n,
             edges: m,
             labels,
+            firsts,
+            lasts,
             sources,
             targets,
             edge_labels,
@@ -90,6 +109,21 @@ impl Query {
             source: self.sources[i] as usize,
             target: self.targets[i] as usize,
             label: self.edge_labels[i],
+        }
+    }
+
+    // What a vertex asks.
+    pub fn filter(self, w: usize) -> Filter
+        requires { ⌜ w < maxVertices ⌝ }
+        ensures { λ r. ⌜ r ≡ filterOf self w ⌝ }
+    {
+        let first = self.firsts[w];
+        let last = self.lasts[w];
+        Filter {
+            label: self.labels[w],
+            first,
+            last,
+            any_day: whole(first, last),
         }
     }
 
@@ -151,6 +185,16 @@ impl Query {
     }
 }
 
+// The days from a first to a last are all.
+fn whole(first: u32, last: u32) -> bool
+    ensures { λ r. ⌜ r ≡ (eqb first 0 && eqb last maxDay) ⌝ }
+{
+    if first != 0 {
+        return false;
+    }
+    last == Graph::MAX_DAY
+}
+
 // The set of the edge's other end, where v is one of its ends; else the empty set.
 fn other_end(e: Edge, v: usize) -> u32
     requires { ⌜ (e .source < 32) × (e .target < 32) ⌝ }
@@ -165,7 +209,7 @@ fn other_end(e: Edge, v: usize) -> u32
     0
 }
 
-// Read query's refusal: 6, 8, 6, 7, then by edge 9, 10, then 11; or 0.
+// Read query's refusal: 6, 8, 6, 7, 25, then by edge 9, 10, then 11; or 0.
 pub fn query_fault(file: &[u8]) -> u32
     ensures { λ r. ⌜ r ≡ queryFault (now (file .entry)) ⌝ }
 {

@@ -30,7 +30,10 @@ impl Case {
         let mut file = Bits::default();
         file.put(self.vertices as u64, 4);
         file.put(self.edges.len() as u64, 5);
-        (0..self.vertices).for_each(|_| file.put(0, 16));
+        for _ in 0..self.vertices {
+            // Any label, and every day.
+            [0, 0, 65_535].into_iter().for_each(|number| file.put(number, 16));
+        }
         for &(from, to, label) in &self.edges {
             file.put(from.into(), 3);
             file.put(to.into(), 3);
@@ -81,7 +84,9 @@ impl Case {
 /// A query and a plan that list nothing: one edge, from a vertex of a label that no vertex has.
 pub fn nothing() -> (Vec<u8>, Vec<u8>) {
     let (mut query, mut plan) = (Bits::default(), Bits::default());
-    for (value, bits) in [(2, 4), (1, 5), (65_535, 16), (0, 16), (0, 3), (1, 3), (1, 8)] {
+    // Each vertex has a label, and every day.
+    let vertices = [(65_535, 16), (0, 16), (65_535, 16), (0, 16), (0, 16), (65_535, 16)];
+    for (value, bits) in [(2, 4), (1, 5)].into_iter().chain(vertices).chain([(0, 3), (1, 3), (1, 8)]) {
         query.put(value, bits);
     }
     for (value, bits) in [(1, 5), (0, 2), (0, 5)] {

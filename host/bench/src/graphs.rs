@@ -11,12 +11,15 @@ pub struct Graph {
 }
 
 impl Graph {
-    /// The packed file: N (16 bits), M (20), labels (16), edges of source (16), label (8), target (16).
+    /// The packed file: N (16 bits), M (20), labels (16) with a day (16) after each, edges of source (16), label (8), target (16).
     pub fn file(&self) -> Vec<u8> {
         let mut file = Bits::default();
         file.put(self.labels.len() as u64, 16);
         file.put(self.edges.len() as u64, 20);
-        self.labels.iter().for_each(|&label| file.put(label.into(), 16));
+        for &label in &self.labels {
+            file.put(label.into(), 16);
+            file.put(0, 16);
+        }
         for &(source, label, target) in &self.edges {
             file.put(source.into(), 16);
             file.put(label.into(), 8);

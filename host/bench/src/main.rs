@@ -131,7 +131,7 @@ fn run_row(rounds: Rounds, store: &[u32], case: &Case, cache: bool, database: Op
 fn table(options: &Options, graph: &Graph, cases: &[Case], caches: &[bool], with_sqlite: bool) -> Table {
     eprintln!("{}", graph.name);
     let file = graph.file();
-    let mut store = vec![0; 3 * graph.labels.len() + 2 * graph.edges.len() + 4];
+    let mut store = vec![0; 4 * graph.labels.len() + 2 * graph.edges.len() + 4];
     let mut rows = vec![load_row(options.rounds, &file, &mut store), check_row(options.rounds, &store)];
     let limit = options.sqlite.filter(|_| with_sqlite);
     let database = limit.map(|limit| Database::new(graph, limit).expect("SQLite takes the graph"));

@@ -8,13 +8,16 @@ pub type Edge = (u16, u8, u16);
 #[derive(Clone, Debug, PartialEq, Eq)]
 pub struct Graph {
     pub labels: Vec<u16>,
+    /// One for each label; 0 for none.
+    pub days: Vec<u16>,
     pub edges: Vec<Edge>,
 }
 
-/// The words of a graph whose labels and edges, as [source, label, target], may be beyond their limits.
-pub fn words_of(labels: &[u32], edges: &[[u32; 3]]) -> Vec<u32> {
+/// The words of a graph whose labels, days and edges, as [source, label, target], may be beyond their limits.
+pub fn words_of(labels: &[u32], days: &[u32], edges: &[[u32; 3]]) -> Vec<u32> {
     let mut words = vec![labels.len() as u32, edges.len() as u32];
     words.extend(labels);
+    words.extend(days);
     let backward = edges.iter().map(|&[s, l, t]| [t, l, s]).collect();
     for mut side in [edges.to_vec(), backward] {
         side.sort();
@@ -29,16 +32,29 @@ impl Graph {
         self.labels.len()
     }
 
+    /// Without days.
     pub fn new(labels: Vec<u16>, mut edges: Vec<Edge>) -> Graph {
         edges.sort();
         edges.dedup();
-        Graph { labels, edges }
+        Graph::as_given(labels, edges)
     }
 
-    /// The file, as the edges stand: sorted or not.
+    /// The same with the edges as they stand, sorted or not.
+    pub fn as_given(labels: Vec<u16>, edges: Vec<Edge>) -> Graph {
+        Graph { days: vec![0; labels.len()], labels, edges }
+    }
+
+    pub fn dated(self, days: Vec<u16>) -> Graph {
+        assert_eq!(days.len(), self.vertices());
+        Graph { days, ..self }
+    }
+
+    /// The file, as the edges stand.
     pub fn file(&self) -> Vec<u8> {
         let mut fields = vec![(self.labels.len() as u64, 16), (self.edges.len() as u64, 20)];
-        fields.extend(self.labels.iter().map(|&l| (u64::from(l), 16)));
+        for v in 0..self.vertices() {
+            fields.extend([(u64::from(self.labels[v]), 16), (u64::from(self.days[v]), 16)]);
+        }
         for &(source, label, target) in &self.edges {
             fields.extend([(u64::from(source), 16), (u64::from(label), 8), (u64::from(target), 16)]);
         }
@@ -52,11 +68,11 @@ impl Graph {
             return Err(1);
         }
         let (n, m) = (reader.field(16).unwrap(), reader.field(20).unwrap());
-        if (file.len() as u64) < 5 + 2 * n + 5 * m {
+        if (file.len() as u64) < 5 + 4 * n + 5 * m {
             return Err(1);
         }
-        let labels = (0..n).map(|_| reader.field(16).unwrap() as u16).collect();
         let mut field = |width| reader.field(width).unwrap();
+        let (labels, days) = (0..n).map(|_| (field(16) as u16, field(16) as u16)).unzip();
         let edges: Vec<Edge> = (0..m).map(|_| (field(16) as u16, field(8) as u8, field(16) as u16)).collect();
         if !reader.ends() {
             return Err(2);
@@ -70,18 +86,24 @@ impl Graph {
                 return Err(4);
             }
         }
-        Ok(Graph { labels, edges })
+        Ok(Graph { labels, days, edges })
     }
 
     pub fn store_size(&self) -> usize {
-        3 * self.labels.len() + 2 * self.edges.len() + 4
+        4 * self.labels.len() + 2 * self.edges.len() + 4
     }
 
     /// The words that the graph's file loads to.
     pub fn store(&self) -> Vec<u32> {
-        let labels: Vec<u32> = self.labels.iter().map(|&l| l.into()).collect();
-        let edges: Vec<[u32; 3]> = self.edges.iter().map(|&(s, l, t)| [s.into(), l.into(), t.into()]).collect();
-        words_of(&labels, &edges)
+        let (labels, days, edges) = self.numbers();
+        words_of(&labels, &days, &edges)
+    }
+
+    /// Labels, days and edges, in words.
+    pub fn numbers(&self) -> (Vec<u32>, Vec<u32>, Vec<[u32; 3]>) {
+        let words = |numbers: &[u16]| numbers.iter().map(|&x| x.into()).collect();
+        let edges = self.edges.iter().map(|&(s, l, t)| [s.into(), l.into(), t.into()]).collect();
+        (words(&self.labels), words(&self.days), edges)
     }
 
     /// The graph of a store, if some accepted file loads to it: the forward lists say what the graph is, its file must be
@@ -92,22 +114,24 @@ impl Graph {
         if n >= 1 << 16 || m >= 1 << 20 {
             return None;
         }
-        let labels = words.get(2..2 + n)?.iter().map(|&l| u16::try_from(l).ok()).collect::<Option<Vec<_>>>()?;
-        let offsets = words.get(2 + n..3 + 2 * n)?;
-        let entries = words.get(3 + 2 * n..3 + 2 * n + m)?;
+        let numbers = |at| words.get(at..at + n)?.iter().map(|&x| u16::try_from(x).ok()).collect::<Option<Vec<u16>>>();
+        let (labels, days) = (numbers(2)?, numbers(2 + n)?);
+        let offsets = words.get(2 + 2 * n..3 + 3 * n)?;
+        let entries = words.get(3 + 3 * n..3 + 3 * n + m)?;
         let mut edges = Vec::new();
         for (v, ends) in offsets.windows(2).enumerate() {
             for &entry in entries.get(ends[0] as usize..ends[1] as usize)? {
                 edges.push((v as u16, u8::try_from(entry / 65536).ok()?, (entry % 65536) as u16));
             }
         }
-        let graph = Graph::read(&Graph { labels, edges }.file()).ok()?;
+        let graph = Graph::read(&Graph { labels, days, edges }.file()).ok()?;
         let store = graph.store();
         (words.len() >= store.len() && words[..store.len()] == store).then_some(graph)
     }
 
     /// A graph with up to so many vertices, dense or sparse, with few labels or many, sometimes with a hub. Every other one has pairs
-    /// that further labels join, and some of these a pair that many do.
+    /// that further labels join, and some of these a pair that many do. Days are none, near the ends of the ranges of random queries,
+    /// or any.
     pub fn random(r: &Random, most: usize) -> Graph {
         let n = r.below(most + 1);
         let labels = (0..n).map(|_| r.below(3) as u16).collect();
@@ -129,6 +153,12 @@ impl Graph {
                 edges.extend((0..r.below(60)).map(|_| (source, 1 + r.below(255) as u8, target)));
             }
         }
-        Graph::new(labels, edges)
+        let kind = r.below(4);
+        let days = (0..n).map(|_| match kind {
+            0 => 0,
+            1 | 2 => r.day(),
+            _ => r.next() as u16,
+        });
+        Graph::new(labels, edges).dated(days.collect())
     }
 }

@@ -5,17 +5,36 @@ use super::random::Random;
 /// An edge: from, to, label; 0 is any label.
 pub type QueryEdge = (usize, usize, u8);
 
+/// A first and a last day, both inclusive.
+pub type Days = (u16, u16);
+
+/// Every day.
+pub const EVER: Days = (0, 65_535);
+
 #[derive(Clone, Debug, PartialEq, Eq)]
 pub struct Query {
     pub labels: Vec<u16>,
+    /// One for each label.
+    pub days: Vec<Days>,
     pub edges: Vec<QueryEdge>,
 }
 
 impl Query {
+    /// Of every day.
     pub fn new(labels: Vec<u16>, mut edges: Vec<QueryEdge>) -> Query {
         edges.sort();
         edges.dedup();
-        Query { labels, edges }
+        Query::as_given(labels, edges)
+    }
+
+    /// The same with the edges as they stand, sorted or not.
+    pub fn as_given(labels: Vec<u16>, edges: Vec<QueryEdge>) -> Query {
+        Query { days: vec![EVER; labels.len()], labels, edges }
+    }
+
+    pub fn inspected(self, days: &[Days]) -> Query {
+        assert_eq!(days.len(), self.vertices());
+        Query { days: days.to_vec(), ..self }
     }
 
     /// Unlabelled, with edges of label 1.
@@ -34,14 +53,16 @@ impl Query {
 
     pub fn file(&self) -> Vec<u8> {
         let mut fields = vec![(self.labels.len() as u64, 4), (self.edges.len() as u64, 5)];
-        fields.extend(self.labels.iter().map(|&l| (u64::from(l), 16)));
+        for (v, &(first, last)) in self.days.iter().enumerate() {
+            fields.extend([self.labels[v], first, last].map(|x| (u64::from(x), 16)));
+        }
         for &(from, to, label) in &self.edges {
             fields.extend([(from as u64, 3), (to as u64, 3), (u64::from(label), 8)]);
         }
         pack(fields)
     }
 
-    /// Refusals 6 to 11, or the query.
+    /// Refusals 6 to 11 and 25, or the query.
     pub fn read(file: &[u8]) -> Result<Query, u32> {
         if file.len() < 2 {
             return Err(6);
@@ -51,11 +72,19 @@ impl Query {
         if !(2..=8).contains(&n) || !(1..=24).contains(&m) {
             return Err(8);
         }
-        let labels = (0..n).map(|_| reader.field(16).map(|l| l as u16)).collect::<Option<Vec<_>>>().ok_or(6u32)?;
+        let mut number = || reader.field(16).map(|x| x as u16).ok_or(6u32);
+        let (mut labels, mut days) = (Vec::new(), Vec::new());
+        for _ in 0..n {
+            labels.push(number()?);
+            days.push((number()?, number()?));
+        }
         let mut edge = || Some((reader.field(3)? as usize, reader.field(3)? as usize, reader.field(8)? as u8));
         let edges = (0..m).map(|_| edge()).collect::<Option<Vec<_>>>().ok_or(6u32)?;
         if !reader.ends() {
             return Err(7);
+        }
+        if days.iter().any(|(first, last)| first > last) {
+            return Err(25);
         }
         for (i, &edge) in edges.iter().enumerate() {
             let (from, to, _) = edge;
@@ -66,7 +95,7 @@ impl Query {
                 return Err(10);
             }
         }
-        let query = Query { labels, edges };
+        let query = Query { labels, days, edges };
         if query.connected() {
             Ok(query)
         } else {
@@ -90,7 +119,8 @@ impl Query {
     }
 
     /// A connected query: a tree, and some edges more; labelled or not; seldom with many vertices. Every other one has no edge of
-    /// any label; in the others half the edges are, and some pairs have such an edge and one of a label beside it.
+    /// any label; in the others half the edges are, and some pairs have such an edge and one of a label beside it. One in three
+    /// asks for days, and half its vertices do.
     pub fn random(r: &Random, most: usize) -> Query {
         let n = 2 + r.below(if r.chance(1, 4) { most - 1 } else { 3.min(most - 1) });
         let kinds = if r.chance(1, 2) { 1 } else { 3 };
@@ -117,6 +147,19 @@ impl Query {
                 edges.push((from, to, if label == 0 { definite(r) } else { 0 }));
             }
         }
-        Query::new(labels, edges)
+        let asked = r.chance(1, 3);
+        let days: Vec<Days> = (0..n).map(|_| if asked && r.chance(1, 2) { random_days(r) } else { EVER }).collect();
+        Query::new(labels, edges).inspected(&days)
     }
+}
+
+/// One of the days that random graphs have as an end, or two of them, or any two: the first is not above the last.
+fn random_days(r: &Random) -> Days {
+    let (one, two) = match r.below(8) {
+        0..3 => (0, r.day()),
+        3..6 => (r.day(), 65_535),
+        6 => (r.day(), r.day()),
+        _ => (r.next() as u16, r.next() as u16),
+    };
+    (one.min(two), one.max(two))
 }

@@ -34,6 +34,11 @@ impl Random {
         (0..count).map(|_| self.next() as u32).collect()
     }
 
+    /// One of a few days, the first and the last ones among them.
+    pub fn day(&self) -> u16 {
+        [0, 1, 2, 3, 9_000, 65_534, 65_535][self.below(7)]
+    }
+
     /// Cuts a file, adds a byte, flips a bit or sets one of its first bytes.
     pub fn damage(&self, file: &mut Vec<u8>) {
         match self.below(6) {

@@ -7,26 +7,39 @@ use std::ops::RangeInclusive;
 use crate::edge::{Edge, Limits, ANY, ANY_LABEL, EDGE_LABELS, VERTEX_LABELS};
 use crate::text::{Note, Section};
 
+/// A vertex of a graph or of a query: its label, and what is said of its days.
+pub trait Drawn: Copy {
+    /// How its days are written.
+    const DAYS: &'static str;
+
+    /// The vertex of a label and of the words that stand after it.
+    fn new(label: u32, days: &[&str]) -> Result<Self, String>;
+}
+
 /// A section as far as it was read: vertices in the order of their lines, edges in any order.
-#[derive(Default)]
-pub struct Drawing {
-    pub labels: Vec<u32>,
+pub struct Drawing<V> {
+    pub vertices: Vec<V>,
     pub edges: Vec<Edge>,
     names: HashMap<String, u32>,
     /// The line of each edge.
     lines: HashMap<Edge, usize>,
 }
 
-impl Drawing {
+impl<V: Drawn> Drawing<V> {
     pub fn read(section: &Section, limits: &Limits) -> Result<Self, Note> {
-        let mut drawing = Drawing::default();
+        let mut drawing = Drawing {
+            vertices: Vec::new(),
+            edges: Vec::new(),
+            names: HashMap::new(),
+            lines: HashMap::new(),
+        };
         for (line, words) in &section.lines {
             drawing
                 .add(*line, words, limits)
                 .map_err(|reason| Note::new(*line, reason))?;
         }
         for (what, count, least) in [
-            ("vertices", drawing.labels.len(), *limits.vertices.start()),
+            ("vertices", drawing.vertices.len(), *limits.vertices.start()),
             ("edges", drawing.edges.len(), *limits.edges.start()),
         ] {
             if count < least {
@@ -39,38 +52,35 @@ impl Drawing {
 
     /// Adds what a line declares.
     fn add(&mut self, line: usize, words: &[&str], limits: &Limits) -> Result<(), String> {
-        let labelled = |label| number("vertex label", label, VERTEX_LABELS);
-        let counted = |count| number("count", count, 0..=u32::MAX);
         match *words {
-            ["vertex", name] => self.add_vertex(name, 0, limits),
-            ["vertex", name, "label", l] => self.add_vertex(name, labelled(l)?, limits),
-            ["vertices", count] => self.add_vertices(counted(count)?, 0, limits),
-            ["vertices", count, "label", l] => {
-                self.add_vertices(counted(count)?, labelled(l)?, limits)
+            ["vertex", name, ref rest @ ..] => self.add_vertex(name, described(rest)?, limits),
+            ["vertices", count, ref rest @ ..] => {
+                let count = number("count", count, 0..=u32::MAX)?;
+                self.add_vertices(count, described(rest)?, limits)
             }
             [source, arrow, target] if is_arrow(arrow) => {
                 let edge = self.edge(source, arrow, target, limits)?;
                 self.add_edge(line, edge, limits)
             }
-            _ => Err(EXPECTED.into()),
+            _ => Err(expected::<V>()),
         }
     }
 
-    fn add_vertex(&mut self, name: &str, label: u32, limits: &Limits) -> Result<(), String> {
+    fn add_vertex(&mut self, name: &str, vertex: V, limits: &Limits) -> Result<(), String> {
         check_name(name)?;
-        let number = self.labels.len() as u32;
+        let number = self.vertices.len() as u32;
         if let Some(first) = self.names.insert(name.into(), number) {
             return Err(format!("'{name}' is the name of vertex {first} already"));
         }
-        self.add_vertices(1, label, limits)
+        self.add_vertices(1, vertex, limits)
     }
 
-    fn add_vertices(&mut self, count: u32, label: u32, limits: &Limits) -> Result<(), String> {
+    fn add_vertices(&mut self, count: u32, vertex: V, limits: &Limits) -> Result<(), String> {
         let most = *limits.vertices.end();
-        if count as usize > most - self.labels.len() {
+        if count as usize > most - self.vertices.len() {
             return Err(format!("more than {most} vertices"));
         }
-        self.labels.extend(repeat(label).take(count as usize));
+        self.vertices.extend(repeat(vertex).take(count as usize));
         Ok(())
     }
 
@@ -114,19 +124,35 @@ impl Drawing {
             self.names.get(word).copied()
         };
         vertex
-            .filter(|&v| (v as usize) < self.labels.len())
+            .filter(|&v| (v as usize) < self.vertices.len())
             .ok_or_else(|| format!("no vertex '{word}' has been declared"))
     }
 }
 
-const EXPECTED: &str = "expected 'vertex NAME' or 'vertices COUNT', with 'label L' after it or \
-                        without, or an edge 'A -L-> B' with blanks around the arrow";
+/// What is said of a line of no known form.
+pub fn expected<V: Drawn>() -> String {
+    format!(
+        "expected 'vertex NAME' or 'vertices COUNT', with 'label L' and then '{}' after it, or one \
+         of them, or none; or an edge 'A -L-> B' with blanks around the arrow",
+        V::DAYS
+    )
+}
+
+/// The vertex that the words after its name describe.
+fn described<V: Drawn>(words: &[&str]) -> Result<V, String> {
+    match *words {
+        ["label", label, ref days @ ..] => {
+            V::new(number("vertex label", label, VERTEX_LABELS)?, days)
+        }
+        _ => V::new(0, words),
+    }
+}
 
 fn is_arrow(word: &str) -> bool {
     word.starts_with('-') || word.ends_with('>')
 }
 
-fn is_number(word: &str) -> bool {
+pub fn is_number(word: &str) -> bool {
     !word.is_empty() && word.bytes().all(|b| b.is_ascii_digit())
 }
 

@@ -1,13 +1,50 @@
-//! The graph file: N vertices (16 bits), M edges (20 bits), N vertex labels (16 bits each), then
-//! M edges of source (16), label (8), target (16).
+//! The graph file: N vertices (16 bits), M edges (20 bits), then N vertices of label (16 bits) and
+//! inspection day (16), then M edges of source (16), label (8), target (16).
+
+use std::fmt;
 
 use crate::bits::{BitReader, BitWriter};
+use crate::day::Day;
+use crate::drawing::{expected, Drawn};
 use crate::edge::{Edge, FileFault, Limits};
 
-/// A data graph. Vertex v has label `labels[v]`; the edges ascend by (source, label, target).
+/// An item: its label, and the day of its last inspection, if it has one.
+#[derive(Clone, Copy, Debug, PartialEq, Eq)]
+pub struct Vertex {
+    pub label: u32,
+    pub day: Day,
+}
+
+impl Drawn for Vertex {
+    const DAYS: &'static str = "day D";
+
+    fn new(label: u32, days: &[&str]) -> Result<Self, String> {
+        let day = match *days {
+            [] => Day::NONE,
+            ["day", day] => Day::read(day)?,
+            ["inspected", _] => {
+                return Err("'inspected' is for query vertices; a graph vertex has 'day D'".into())
+            }
+            _ => return Err(expected::<Self>()),
+        };
+        Ok(Vertex { label, day })
+    }
+}
+
+impl fmt::Display for Vertex {
+    fn fmt(&self, f: &mut fmt::Formatter) -> fmt::Result {
+        write!(f, "label {}", self.label)?;
+        match self.day {
+            Day::NONE => Ok(()),
+            day => write!(f, " day {day}"),
+        }
+    }
+}
+
+/// A data graph. Its vertices are numbered from 0; the edges ascend by (source, label, target).
 #[derive(Clone, Debug, PartialEq, Eq)]
 pub struct Graph {
-    pub labels: Vec<u32>,
+    pub vertices: Vec<Vertex>,
     pub edges: Vec<Edge>,
 }
 
@@ -19,17 +56,18 @@ impl Graph {
         any_label: false,
     };
 
-    pub fn new(labels: Vec<u32>, mut edges: Vec<Edge>) -> Self {
+    pub fn new(vertices: Vec<Vertex>, mut edges: Vec<Edge>) -> Self {
         edges.sort_by_key(key);
-        Graph { labels, edges }
+        Graph { vertices, edges }
     }
 
     pub fn to_bytes(&self) -> Vec<u8> {
         let mut out = BitWriter::default();
-        out.put(self.labels.len() as u32, 16);
+        out.put(self.vertices.len() as u32, 16);
         out.put(self.edges.len() as u32, 20);
-        for &label in &self.labels {
-            out.put(label, 16);
+        for v in &self.vertices {
+            out.put(v.label, 16);
+            out.put(v.day.0, 16);
         }
         for e in &self.edges {
             out.put(e.source, 16);
@@ -42,7 +80,7 @@ impl Graph {
     /// The graph of a file, or the first fault in the engine's order.
     pub fn from_bytes(bytes: &[u8]) -> Result<Self, FileFault> {
         let mut file = BitReader::new(bytes);
-        let (labels, edges) =
+        let (vertices, edges) =
             read(&mut file).ok_or_else(|| FileFault::new(1, "the file is too short"))?;
         if file.is_long() {
             return Err(FileFault::new(2, "the file is too long"));
@@ -55,14 +93,14 @@ impl Graph {
                 let ends = format!("from {} to {}", e.source, e.target);
                 return Err(FileFault::new(3, format!("edge {ends}: label 0")));
             }
-            if e.source.max(e.target) as usize >= labels.len() {
+            if e.source.max(e.target) as usize >= vertices.len() {
                 return Err(FileFault::new(3, format!("edge {e}: no such vertex")));
             }
             if i > 0 && key(&edges[i - 1]) >= key(e) {
                 return Err(FileFault::new(4, format!("edge {e} does not ascend")));
             }
         }
-        Ok(Graph { labels, edges })
+        Ok(Graph { vertices, edges })
     }
 }
 
@@ -71,12 +109,19 @@ fn key(e: &Edge) -> (u32, u32, u32) {
     (e.source, e.label, e.target)
 }
 
-fn read(file: &mut BitReader) -> Option<(Vec<u32>, Vec<Edge>)> {
+fn read(file: &mut BitReader) -> Option<(Vec<Vertex>, Vec<Edge>)> {
     let n = file.take(16)?;
     let m = file.take(20)?;
-    let labels = (0..n).map(|_| file.take(16)).collect::<Option<_>>()?;
+    let vertices = (0..n).map(|_| vertex(file)).collect::<Option<_>>()?;
     let edges = (0..m).map(|_| edge(file)).collect::<Option<_>>()?;
-    Some((labels, edges))
+    Some((vertices, edges))
+}
+
+fn vertex(file: &mut BitReader) -> Option<Vertex> {
+    Some(Vertex {
+        label: file.take(16)?,
+        day: Day(file.take(16)?),
+    })
 }
 
 fn edge(file: &mut BitReader) -> Option<Edge> {

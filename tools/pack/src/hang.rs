@@ -45,16 +45,16 @@ impl Hang {
     }
 }
 
-/// The text form, with numbers for names.
+/// The text form, with numbers for names and dates for days.
 impl fmt::Display for Hang {
     fn fmt(&self, f: &mut fmt::Formatter) -> fmt::Result {
         if let Some(graph) = &self.graph {
             writeln!(f, "[graph]")?;
-            write_drawing(f, &graph.labels, &graph.edges)?;
+            write_drawing(f, &graph.vertices, &graph.edges)?;
         }
         if let Some(query) = &self.query {
             writeln!(f, "[query]")?;
-            write_drawing(f, &query.labels, &query.edges)?;
+            write_drawing(f, &query.vertices, &query.edges)?;
             if let Some(plan) = &self.plan {
                 writeln!(f, "[plan]")?;
                 write_plan(f, query, plan)?;
@@ -64,16 +64,15 @@ impl fmt::Display for Hang {
     }
 }
 
-fn write_drawing(f: &mut fmt::Formatter, labels: &[u32], edges: &[Edge]) -> fmt::Result {
+fn write_drawing<V: fmt::Display + PartialEq>(
+    f: &mut fmt::Formatter,
+    vertices: &[V],
+    edges: &[Edge],
+) -> fmt::Result {
     let mut first = 0;
-    for run in labels.chunk_by(|a, b| a == b) {
+    for run in vertices.chunk_by(|a, b| a == b) {
         let last = first + run.len() - 1;
-        writeln!(
-            f,
-            "vertices {} label {}  # {first} to {last}",
-            run.len(),
-            run[0]
-        )?;
+        writeln!(f, "vertices {} {}  # {first} to {last}", run.len(), run[0])?;
         first = last + 1;
     }
     for edge in edges {

@@ -2,6 +2,7 @@
 
 pub mod bits;
 pub mod cli;
+pub mod day;
 pub mod drawing;
 pub mod edge;
 pub mod graph;

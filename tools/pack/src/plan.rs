@@ -77,7 +77,7 @@ fn operator(file: &mut BitReader, query: &Query) -> Result<Operator, FileFault> 
             i => Err(FileFault::new(14, format!("scan {i}: no such edge"))),
         },
         1 => match take(file, 3)? {
-            v if (v as usize) < query.labels.len() => Ok(Operator::Extend(v)),
+            v if (v as usize) < query.vertices.len() => Ok(Operator::Extend(v)),
             v => Err(FileFault::new(14, format!("extend {v}: no such vertex"))),
         },
         2 => Ok(Operator::Join),

@@ -1,14 +1,54 @@
-//! The query file: n vertices (4 bits), m edges (5 bits), n vertex labels (16 bits each), then
-//! m edges of from (3), to (3), label (8).
+//! The query file: n vertices (4 bits), m edges (5 bits), then n vertices of label (16 bits), first
+//! day (16) and last day (16), then m edges of from (3), to (3), label (8).
+
+use std::fmt;
 
 use crate::bits::{BitReader, BitWriter};
+use crate::day::{Day, Days};
+use crate::drawing::{expected, Drawn};
 use crate::edge::{Edge, FileFault, Limits};
 
-/// A pattern. Vertex v has label `labels[v]`, where 0 fits every data vertex, and an edge of label 0
-/// fits every data edge; the edges ascend by (from, to, label).
+/// What an item has to be: of this label, where 0 fits every one, and last inspected on one of
+/// these days.
+#[derive(Clone, Copy, Debug, PartialEq, Eq)]
+pub struct Vertex {
+    pub label: u32,
+    pub days: Days,
+}
+
+impl Drawn for Vertex {
+    const DAYS: &'static str = "inspected FIRST..LAST";
+
+    fn new(label: u32, days: &[&str]) -> Result<Self, String> {
+        let days = match *days {
+            [] => Days::ALL,
+            ["inspected", days] => Days::read(days)?,
+            ["day", _] => {
+                return Err("'day' is for graph vertices; a query vertex has \
+                            'inspected FIRST..LAST'"
+                    .into())
+            }
+            _ => return Err(expected::<Self>()),
+        };
+        Ok(Vertex { label, days })
+    }
+}
+
+impl fmt::Display for Vertex {
+    fn fmt(&self, f: &mut fmt::Formatter) -> fmt::Result {
+        write!(f, "label {}", self.label)?;
+        match self.days {
+            Days::ALL => Ok(()),
+            days => write!(f, " inspected {days}"),
+        }
+    }
+}
+
+/// A pattern. Its vertices are numbered from 0; an edge of label 0 fits every data edge; the edges
+/// ascend by (from, to, label).
 #[derive(Clone, Debug, PartialEq, Eq)]
 pub struct Query {
-    pub labels: Vec<u32>,
+    pub vertices: Vec<Vertex>,
     pub edges: Vec<Edge>,
 }
 
@@ -20,17 +60,19 @@ impl Query {
         any_label: true,
     };
 
-    pub fn new(labels: Vec<u32>, mut edges: Vec<Edge>) -> Self {
+    pub fn new(vertices: Vec<Vertex>, mut edges: Vec<Edge>) -> Self {
         edges.sort_by_key(key);
-        Query { labels, edges }
+        Query { vertices, edges }
     }
 
     pub fn to_bytes(&self) -> Vec<u8> {
         let mut out = BitWriter::default();
-        out.put(self.labels.len() as u32, 4);
+        out.put(self.vertices.len() as u32, 4);
         out.put(self.edges.len() as u32, 5);
-        for &label in &self.labels {
-            out.put(label, 16);
+        for v in &self.vertices {
+            out.put(v.label, 16);
+            out.put(v.days.first.0, 16);
+            out.put(v.days.last.0, 16);
         }
         for e in &self.edges {
             out.put(e.source, 3);
@@ -53,12 +95,17 @@ impl Query {
         if !Query::LIMITS.edges.contains(&m) {
             return Err(FileFault::new(8, format!("{m} edges")));
         }
-        let (labels, edges) = read(&mut file, n, m).ok_or_else(too_short)?;
+        let (vertices, edges) = read(&mut file, n, m).ok_or_else(too_short)?;
         if file.is_long() {
             return Err(FileFault::new(7, "the file is too long"));
         }
         if file.has_fill_set() {
             return Err(FileFault::new(7, "a fill bit is set"));
+        }
+        if let Some(i) = vertices.iter().position(|v| v.days.is_reversed()) {
+            let Days { first, last } = vertices[i].days;
+            let reason = format!("vertex {i}: first day {first} above last day {last}");
+            return Err(FileFault::new(25, reason));
         }
         for (i, e) in edges.iter().enumerate() {
             if e.source.max(e.target) as usize >= n {
@@ -71,7 +118,7 @@ impl Query {
                 return Err(FileFault::new(10, format!("edge {e} does not ascend")));
             }
         }
-        Ok(Query { labels, edges })
+        Ok(Query { vertices, edges })
     }
 }
 
@@ -80,10 +127,18 @@ fn key(e: &Edge) -> (u32, u32, u32) {
     (e.source, e.target, e.label)
 }
 
-fn read(file: &mut BitReader, n: usize, m: usize) -> Option<(Vec<u32>, Vec<Edge>)> {
-    let labels = (0..n).map(|_| file.take(16)).collect::<Option<_>>()?;
+fn read(file: &mut BitReader, n: usize, m: usize) -> Option<(Vec<Vertex>, Vec<Edge>)> {
+    let vertices = (0..n).map(|_| vertex(file)).collect::<Option<_>>()?;
     let edges = (0..m).map(|_| edge(file)).collect::<Option<_>>()?;
-    Some((labels, edges))
+    Some((vertices, edges))
+}
+
+fn vertex(file: &mut BitReader) -> Option<Vertex> {
+    let label = file.take(16)?;
+    let first = Day(file.take(16)?);
+    let last = Day(file.take(16)?);
+    let days = Days { first, last };
+    Some(Vertex { label, days })
 }
 
 fn edge(file: &mut BitReader) -> Option<Edge> {

@@ -25,7 +25,7 @@ fn ends(e: &Edge) -> VertexSet {
 }
 
 fn all(query: &Query) -> VertexSet {
-    (0..query.labels.len() as u32).fold(0, |set, v| set | bit(v))
+    (0..query.vertices.len() as u32).fold(0, |set, v| set | bit(v))
 }
 
 /// The edge has both ends in the set.
@@ -36,7 +36,7 @@ fn inside(set: VertexSet, e: &Edge) -> bool {
 /// Ignoring direction, every vertex is reached from vertex 0.
 pub fn is_connected(query: &Query) -> bool {
     let mut seen = bit(0);
-    for _ in &query.labels {
+    for _ in &query.vertices {
         for e in &query.edges {
             if ends(e) & seen != 0 {
                 seen |= ends(e);
@@ -128,6 +128,8 @@ fn joinable(query: &Query, build: VertexSet, probe: VertexSet) -> Step {
 #[cfg(test)]
 mod tests {
     use super::*;
+    use crate::day::Days;
+    use crate::query::Vertex;
     use Operator::{Extend, Join, Scan};
 
     fn query(n: usize, pairs: &[(u32, u32)]) -> Query {
@@ -136,7 +138,11 @@ mod tests {
             label: 1,
             target,
         });
-        Query::new(vec![0; n], edges.collect())
+        let vertex = Vertex {
+            label: 0,
+            days: Days::ALL,
+        };
+        Query::new(vec![vertex; n], edges.collect())
     }
 
     fn diamond() -> Query {

@@ -4,7 +4,7 @@ use crate::drawing::{number, Drawing};
 use crate::graph::Graph;
 use crate::hang::Hang;
 use crate::plan::{Operator, Plan};
-use crate::query::Query;
+use crate::query::{Query, Vertex};
 use crate::rules::{broken_rule, is_connected};
 
 /// What is to be said about a line of a text. Lines count from 1.
@@ -46,7 +46,7 @@ pub fn parse(bytes: &[u8]) -> Result<Parsed, Note> {
     let graph = find("[graph]")
         .map(|s| Drawing::read(s, &Graph::LIMITS))
         .transpose()?
-        .map(|d| Graph::new(d.labels, d.edges));
+        .map(|d| Graph::new(d.vertices, d.edges));
     let (query, plan, warning) = match (find("[query]"), find("[plan]")) {
         (Some(query), plan) => read_pattern(query, plan)?,
         (None, Some(plan)) => return Err(Note::new(plan.line, "a [plan] needs its [query]")),
@@ -104,7 +104,7 @@ type Pattern = (Option<Query>, Option<Plan>, Option<Note>);
 
 fn read_pattern(query: &Section, plan: Option<&Section>) -> Result<Pattern, Note> {
     let drawing = Drawing::read(query, &Query::LIMITS)?;
-    let parsed = Query::new(drawing.labels.clone(), drawing.edges.clone());
+    let parsed = Query::new(drawing.vertices.clone(), drawing.edges.clone());
     let read = plan.map(|s| read_plan(s, &drawing, &parsed)).transpose()?;
     let warning = if is_connected(&parsed) {
         plan.zip(read.as_ref())
@@ -128,7 +128,7 @@ fn refused(line: usize, refusal: u8, reason: &str) -> Note {
     )
 }
 
-fn read_plan(section: &Section, drawing: &Drawing, query: &Query) -> Result<Plan, Note> {
+fn read_plan(section: &Section, drawing: &Drawing<Vertex>, query: &Query) -> Result<Plan, Note> {
     let mut operators = Vec::new();
     for (line, words) in &section.lines {
         let operator = read_operator(words, drawing, query);
@@ -144,7 +144,11 @@ fn read_plan(section: &Section, drawing: &Drawing, query: &Query) -> Result<Plan
     Ok(Plan { operators })
 }
 
-fn read_operator(words: &[&str], drawing: &Drawing, query: &Query) -> Result<Operator, String> {
+fn read_operator(
+    words: &[&str],
+    drawing: &Drawing<Vertex>,
+    query: &Query,
+) -> Result<Operator, String> {
     match *words {
         ["scan", index] => {
             let last = query.edges.len() as u32 - 1;

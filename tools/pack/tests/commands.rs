@@ -65,6 +65,60 @@ fn an_edge_of_any_label_comes_back() {
     assert_eq!(told(unpack(&dir, &["."])), says(0, &text, ""));
 }
 
+/// Days come back as dates, and vertices of the same label and days in one line.
+#[test]
+fn days_come_back() {
+    let dir = folder("days");
+    let text = "[graph]\n\
+                vertices 2 label 3 day 2026-11-15  # 0 to 1\n\
+                vertices 1 label 3  # 2 to 2\n\
+                vertices 1 label 0 day 2179-06-06  # 3 to 3\n\
+                0 -1-> 1\n\
+                [query]\n\
+                vertices 1 label 3 inspected 2025-01-01..2026-06-30  # 0 to 0\n\
+                vertices 1 label 3 inspected ..2026-06-30  # 1 to 1\n\
+                vertices 2 label 0 inspected 2000-01-02..  # 2 to 3\n\
+                vertices 1 label 0 inspected ..0  # 4 to 4\n\
+                vertices 1 label 0  # 5 to 5\n\
+                0 -1-> 1\n1 -1-> 2\n2 -1-> 3\n3 -1-> 4\n4 -1-> 5\n";
+    fs::write(dir.join("hang.txt"), text).unwrap();
+    assert_eq!(told(pack(&dir, &["hang.txt"])), says(0, "", ""));
+    assert_eq!(told(unpack(&dir, &["."])), says(0, text, ""));
+    // The same in numbers, with ends that need not be written.
+    let numbers = text
+        .replace("2026-11-15", "9815")
+        .replace("2179-06-06", "65535")
+        .replace("2025-01-01..2026-06-30", "9132..9677")
+        .replace("inspected ..2026-06-30", "inspected 0..9677")
+        .replace("2000-01-02..", "1..65535")
+        .replace("inspected ..0", "inspected 0..0")
+        .replace("label 3  # 2", "label 3 day 0  # 2")
+        .replace("label 0  # 5", "inspected ..  # 5");
+    fs::write(dir.join("numbers.txt"), numbers).unwrap();
+    assert_eq!(told(pack(&dir, &["numbers.txt"])), says(0, "", ""));
+    assert_eq!(told(unpack(&dir, &["."])), says(0, text, ""));
+}
+
+#[test]
+fn bad_days_have_a_line_and_change_no_file() {
+    let dir = folder("bad_days");
+    fs::write(dir.join("hang.txt"), TEXT).unwrap();
+    assert_eq!(told(pack(&dir, &["hang.txt"])), says(0, "", ""));
+    let bad = TEXT.replace("label 7", "label 7 day 2026-02-29");
+    fs::write(dir.join("bad.txt"), bad).unwrap();
+    let message = "bad.txt:2: 2026-02-29 is no date: that month has days 1 to 28\n";
+    assert_eq!(told(pack(&dir, &["bad.txt"])), says(1, "", message));
+    assert_eq!(told(unpack(&dir, &["."])), says(0, TEXT, ""));
+    let mut query = fs::read(dir.join("q.bin")).unwrap();
+    query[4] = 2;
+    query[5] = 0;
+    query[6] = 0;
+    fs::write(dir.join("q.bin"), query).unwrap();
+    let message =
+        "./q.bin: vertex 0: first day 2000-01-05 above last day 2000-01-02 (refusal 25)\n";
+    assert_eq!(told(unpack(&dir, &["."])), says(1, "", message));
+}
+
 #[test]
 fn a_missing_section_leaves_its_file() {
     let dir = folder("section");

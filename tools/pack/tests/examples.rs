@@ -26,7 +26,7 @@ fn files(example: &Path) -> Files {
 #[test]
 fn examples_round_trip() {
     let examples = examples();
-    assert!(examples.len() >= 5);
+    assert!(examples.len() >= 6);
     for example in examples {
         let packed = parse(&text(&example)).unwrap().hang;
         assert_eq!(packed.to_files(), files(&example), "{example:?}");
@@ -50,6 +50,27 @@ fn the_refused_example_is_warned_of() {
             None => assert_eq!(warning, None),
         }
     }
+}
+
+/// The ranges in the table of the lapsed motors, each in place of the one in the text.
+#[test]
+fn the_ranges_of_the_lapsed_motors() {
+    let examples = examples();
+    let named = |path: &&PathBuf| path.ends_with("lapsed-motors");
+    let folder = examples.iter().find(named).unwrap();
+    let text = String::from_utf8(text(folder)).unwrap();
+    let readme = fs::read_to_string(folder.join("README.md")).unwrap();
+    let ranges: Vec<(u32, u32)> = readme
+        .lines()
+        .filter_map(|line| line.strip_prefix("| `inspected ")?.split('`').next())
+        .map(|range| {
+            let text = text.replace("inspected ..2025-06-30", &format!("inspected {range}"));
+            let query = parse(text.as_bytes()).unwrap().hang.query.unwrap();
+            let days = query.vertices[2].days;
+            (days.first.0, days.last.0)
+        })
+        .collect();
+    assert_eq!(ranges, [(0, 9_312), (1, 9_312), (0, 0), (9_313, 65_535)]);
 }
 
 /// A stream of numbers that look random and are the same in every run.

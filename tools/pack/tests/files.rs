@@ -1,14 +1,15 @@
 //! Malformed packed files, against the numbers that the engine refuses them with.
 
+use pack::bits::BitWriter;
 use pack::edge::FileFault;
 use pack::graph::Graph;
 use pack::plan::Plan;
 use pack::query::Query;
 
 /// The worked files G, Q and P in hexadecimal.
-const G: &str = "0004 00005 0000000000000000 \
+const G: &str = "0004 00005 00000000 00000000 00000000 00000000 \
                  0000010001 0000010002 0001010002 0001010003 0002010003 0";
-const Q: &str = "31 80 00 00 00 00 00 02 02 10 09 40 20";
+const Q: &str = "31 80 00 00 00 7f ff 80 00 00 00 7f ff 80 00 00 00 7f ff 82 02 10 09 40 20";
 const P: &str = "10 05 00";
 
 fn bytes(hex: &str) -> Vec<u8> {
@@ -44,52 +45,148 @@ fn graphs() {
     assert!(graph("0000 00000 0").is_ok());
     assert_eq!(refusal(graph("")), 1);
     assert_eq!(refusal(graph("0000 0000")), 1);
-    assert_eq!(refusal(Graph::from_bytes(&bytes(G)[..37])), 1);
+    assert_eq!(refusal(Graph::from_bytes(&bytes(G)[..45])), 1);
     assert_eq!(refusal(graph("0000 00000 000")), 2);
     assert_eq!(refusal(graph("0000 00000 1")), 2);
-    assert_eq!(refusal(graph("0001 00001 0000 0000010001 0")), 3);
-    assert_eq!(refusal(graph("0001 00001 0000 0001010000 0")), 3);
-    assert_eq!(refusal(graph("0001 00001 0000 0000000000 0")), 3);
-    assert_eq!(refusal(graph("0001 00002 0000 0000010000 0000010000 0")), 4);
-    assert_eq!(refusal(graph("0001 00002 0000 0000020000 0000010000 0")), 4);
+    assert_eq!(refusal(graph("0001 00001 00000000 0000010001 0")), 3);
+    assert_eq!(refusal(graph("0001 00001 00000000 0001010000 0")), 3);
+    assert_eq!(refusal(graph("0001 00001 00000000 0000000000 0")), 3);
+    assert_eq!(
+        refusal(graph("0001 00002 00000000 0000010000 0000010000 0")),
+        4
+    );
+    assert_eq!(
+        refusal(graph("0001 00002 00000000 0000020000 0000010000 0")),
+        4
+    );
 }
 
 #[test]
 fn queries() {
-    // Two vertices and one edge from 0 to 1 of label 1: 55 bits.
-    assert!(query("20 80 00 00 00 02 02").is_ok());
+    // Two vertices and one edge from 0 to 1 of label 1: 119 bits.
+    assert!(query("20 80 00 00 00 7f ff 80 00 00 00 7f ff 82 02").is_ok());
     assert_eq!(refusal(query("")), 6);
     assert_eq!(refusal(query("20")), 6);
     assert_eq!(refusal(query("10 80")), 8);
     assert_eq!(refusal(query("90 80")), 8);
     assert_eq!(refusal(query("20 00")), 8);
     assert_eq!(refusal(query("2c 80")), 8);
-    assert_eq!(refusal(query("20 80 00 00 00 02")), 6);
-    assert_eq!(refusal(query("20 80 00 00 00 02 02 00")), 7);
-    assert_eq!(refusal(query("20 80 00 00 00 02 03")), 7);
-    assert_eq!(refusal(query("20 80 00 00 00 04 02")), 9);
-    assert_eq!(refusal(query("20 80 00 00 00 20 02")), 9);
-    assert_eq!(refusal(query("20 80 00 00 00 00 02")), 9);
+    assert_eq!(
+        refusal(query("20 80 00 00 00 7f ff 80 00 00 00 7f ff 82")),
+        6
+    );
+    assert_eq!(
+        refusal(query("20 80 00 00 00 7f ff 80 00 00 00 7f ff 82 02 00")),
+        7
+    );
+    assert_eq!(
+        refusal(query("20 80 00 00 00 7f ff 80 00 00 00 7f ff 82 03")),
+        7
+    );
+    assert_eq!(
+        refusal(query("20 80 00 00 00 7f ff 80 00 00 00 7f ff 84 02")),
+        9
+    );
+    assert_eq!(
+        refusal(query("20 80 00 00 00 7f ff 80 00 00 00 7f ff a0 02")),
+        9
+    );
+    assert_eq!(
+        refusal(query("20 80 00 00 00 7f ff 80 00 00 00 7f ff 80 02")),
+        9
+    );
     // An edge of label 0 is one of any label; its ends are as for the others.
-    assert!(query("20 80 00 00 00 02 00").is_ok());
-    assert_eq!(refusal(query("20 80 00 00 00 04 00")), 9);
-    assert_eq!(refusal(query("20 80 00 00 00 00 00")), 9);
-    assert_eq!(refusal(query("21 00 00 00 00 02 02 08 08")), 10);
-    assert_eq!(refusal(query("21 00 00 00 00 02 02 08 00")), 10);
-    assert_eq!(refusal(query("21 00 00 00 00 02 00 08 00")), 10);
-    assert!(query("21 00 00 00 00 02 00 08 08").is_ok());
+    assert!(query("20 80 00 00 00 7f ff 80 00 00 00 7f ff 82 00").is_ok());
+    assert_eq!(
+        refusal(query("20 80 00 00 00 7f ff 80 00 00 00 7f ff 84 00")),
+        9
+    );
+    assert_eq!(
+        refusal(query("20 80 00 00 00 7f ff 80 00 00 00 7f ff 80 00")),
+        9
+    );
+    assert_eq!(
+        refusal(query("21 00 00 00 00 7f ff 80 00 00 00 7f ff 82 02 08 08")),
+        10
+    );
+    assert_eq!(
+        refusal(query("21 00 00 00 00 7f ff 80 00 00 00 7f ff 82 02 08 00")),
+        10
+    );
+    assert_eq!(
+        refusal(query("21 00 00 00 00 7f ff 80 00 00 00 7f ff 82 00 08 00")),
+        10
+    );
+    assert!(query("21 00 00 00 00 7f ff 80 00 00 00 7f ff 82 00 08 08").is_ok());
 }
 
 /// The graph's own label 0 stays refused, and is not called any label.
 #[test]
 fn label_0() {
-    let fault = graph("0001 00001 0000 0000000000 0").unwrap_err();
+    let fault = graph("0001 00001 00000000 0000000000 0").unwrap_err();
     assert_eq!(fault.to_string(), "edge from 0 to 0: label 0 (refusal 3)");
-    let fault = graph("0001 00001 0000 0000000001 0").unwrap_err();
+    let fault = graph("0001 00001 00000000 0000000001 0").unwrap_err();
     assert_eq!(fault.to_string(), "edge from 0 to 1: label 0 (refusal 3)");
-    let any = query("20 80 00 00 00 02 00").unwrap();
+    let any = query("20 80 00 00 00 7f ff 80 00 00 00 7f ff 82 00").unwrap();
     assert_eq!(any.edges[0].to_string(), "0 -any-> 1");
-    assert_eq!(any.to_bytes(), bytes("20 80 00 00 00 02 00"));
+    let file = "20 80 00 00 00 7f ff 80 00 00 00 7f ff 82 00";
+    assert_eq!(any.to_bytes(), bytes(file));
+}
+
+/// A query of two vertices with these first and last days, and one edge.
+fn inspected(days: [(u32, u32); 2], edge: (u32, u32)) -> Vec<u8> {
+    let mut out = BitWriter::default();
+    out.put(2, 4);
+    out.put(1, 5);
+    for (first, last) in days {
+        out.put(7, 16);
+        out.put(first, 16);
+        out.put(last, 16);
+    }
+    out.put(edge.0, 3);
+    out.put(edge.1, 3);
+    out.put(1, 8);
+    out.finish()
+}
+
+/// A first day above the last is refused after the lengths and before the edges.
+#[test]
+fn days_of_a_query() {
+    let read = |days, edge| Query::from_bytes(&inspected(days, edge));
+    for good in [(0, 0), (0, 65_535), (5, 5), (65_535, 65_535)] {
+        assert!(read([good, (1, 2)], (0, 1)).is_ok());
+    }
+    for bad in [(1, 0), (6, 5), (65_535, 65_534), (65_535, 0)] {
+        assert_eq!(refusal(read([bad, (0, 65_535)], (0, 1))), 25);
+        assert_eq!(refusal(read([(0, 65_535), bad], (0, 1))), 25);
+        assert_eq!(refusal(read([(0, 65_535), bad], (1, 1))), 25);
+        let file = inspected([bad, bad], (7, 7));
+        assert_eq!(refusal(Query::from_bytes(&file)), 25);
+        assert_eq!(refusal(Query::from_bytes(&file[..file.len() - 1])), 6);
+        assert_eq!(refusal(Query::from_bytes(&[&file[..], &[0]].concat())), 7);
+        let fill = [&file[..file.len() - 1], &[file[file.len() - 1] | 1]].concat();
+        assert_eq!(refusal(Query::from_bytes(&fill)), 7);
+        assert_eq!(
+            refusal(Query::from_bytes(&[&[0x1f], &file[1..]].concat())),
+            8
+        );
+    }
+    assert_eq!(refusal(read([(5, 5), (6, 6)], (1, 1))), 9);
+    let fault = read([(5, 5), (9_496, 1)], (0, 1)).unwrap_err();
+    assert_eq!(
+        fault.to_string(),
+        "vertex 1: first day 2025-12-31 above last day 2000-01-02 (refusal 25)"
+    );
+}
+
+/// The day follows each label; every number of 16 bits is one.
+#[test]
+fn days_of_a_graph() {
+    let file = "0003 00000 00070001 0000ffff ffff0000 0";
+    let graph = graph(file).unwrap();
+    let fields: Vec<(u32, u32)> = graph.vertices.iter().map(|v| (v.label, v.day.0)).collect();
+    assert_eq!(fields, [(7, 1), (0, 65_535), (65_535, 0)]);
+    assert_eq!(graph.to_bytes(), bytes(file));
 }
 
 #[test]

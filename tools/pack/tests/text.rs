@@ -1,5 +1,6 @@
 //! What the text form means, and what is said about text that breaks its rules.
 
+use pack::day::Day;
 use pack::edge::Edge;
 use pack::plan::Operator;
 use pack::text::parse;
@@ -38,7 +39,9 @@ fn names_numbers_labels_and_comments() {
                 pin -255-> 0\n2 -1-> Öse-2\n3 -1-> 3\n";
     let parsed = parse(text.as_bytes()).unwrap();
     let graph = parsed.hang.graph.unwrap();
-    assert_eq!(graph.labels, [65_535, 65_535, 7, 0]);
+    let labels: Vec<u32> = graph.vertices.iter().map(|v| v.label).collect();
+    assert_eq!(labels, [65_535, 65_535, 7, 0]);
+    assert!(graph.vertices.iter().all(|v| v.day == Day::NONE));
     assert_eq!(graph.edges, [edge(2, 1, 3), edge(2, 255, 0), edge(3, 1, 3)]);
     assert!(parsed.hang.query.is_none() && parsed.hang.plan.is_none());
 }

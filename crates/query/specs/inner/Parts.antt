@@ -9,11 +9,11 @@ use Rattle.lists.specs.Lists.{range}
 use Rattle.lists.specs.Refusal.{refuse, first}
 use Rattle.packed.specs.Field.{fieldAt, bitsIn, bytesFor, fillSet}
 use Rattle.graph.specs.Graph.{Edge}
-use Rattle.query.specs.File.{minVertices, maxVertices, minEdges, maxEdges, edgeCount, edgeStart, outsideLimits, key, badEdge, edgeFault}
+use Rattle.query.specs.File.{minVertices, maxVertices, minEdges, maxEdges, vertexCount, edgeCount, vertexStart, edgeStart, outsideLimits, dayFault, key, badEdge, edgeFault}
 
--- The label of vertex w.
-abbrev pub labelIn : List ℕ → ℕ → ℕ
-labelIn s w = fieldAt s (9 + 16 * w) 16
+-- A field of vertex w: 16 bits, o bits past the vertex's start.
+abbrev pub vertexField : List ℕ → ℕ → ℕ → ℕ
+vertexField s o w = fieldAt s (vertexStart w + o) 16
 
 -- A field of edge i, where the edges begin at a bit position: w bits, o bits past the edge's start.
 abbrev pub edgeField : List ℕ → ℕ → ℕ → ℕ → ℕ → ℕ
@@ -35,6 +35,10 @@ edgeFrom s at = record { source = fieldAt s at 3; target = fieldAt s (at + 3) 3;
 abbrev pub keyFault : ℕ → ℕ → Edge → ℕ
 keyFault n least e = first (refuse 9 (badEdge n e) ∷ refuse 10 (ltb (key e) least) ∷ [])
 
+-- 25 of the first n vertices.
+unfoldable pub queryDaysFault : List ℕ → ℕ → ℕ
+queryDaysFault s n = first (map (dayFault s) (range n))
+
 -- 'By edge, 9 .., 10 ..', of the first m edges.
 unfoldable pub queryEdgesFault : List ℕ → ℕ → ℕ
 queryEdgesFault s m = first (map (edgeFault s) (range m))
@@ -46,6 +50,7 @@ queryFileFault s =
     (refuse 6 (ltb (length s) 2)
     ∷ refuse 8 (outsideLimits s)
     ∷ sizeFault s (edgeStart s (edgeCount s))
+    ∷ queryDaysFault s (vertexCount s)
     ∷ queryEdgesFault s (edgeCount s)
     ∷ [])
 

@@ -1,14 +1,15 @@
 -- The query in the structs of the code. Assumes nothing.
-use mathlib.Core.Bool.{Bool}
+use mathlib.Core.Bool.{Bool, _&&_}
 use mathlib.Core.List.{List, map}
 use Prim.Native.Nat.{ℕ, suc, _≤_, _<_}
-use lib.Dec.{ltb}
+use lib.Dec.{eqb, ltb}
 use lib.ListN.{getD, take}
 use Rattle.lists.specs.Lists.{range}
-use Rattle.graph.specs.Graph.{Edge, maxEdgeLabel}
+use Rattle.graph.specs.Graph.{Edge, maxDay, maxEdgeLabel}
 use Rattle.query.specs.Query.{Query}
 use Rattle.query.specs.File.{maxVertices, maxEdges}
 use Rattle.query.specs.declared.Edge.{Edge as EdgeStruct}
+use Rattle.query.specs.declared.Filter.{Filter as FilterStruct}
 use Rattle.query.specs.declared.Query.{Query as QueryStruct}
 
 -- A query edge as the code has it, and back.
@@ -33,6 +34,8 @@ queryIn d =
     record {
       vertices = d .vertices;
       labels = take (d .vertices) (d .labels);
+      firsts = take (d .vertices) (d .firsts);
+      lasts = take (d .vertices) (d .lasts);
       edges = map (edgeOf d) (range (d .edges));
     }
 
@@ -46,3 +49,13 @@ pub record Held (d : QueryStruct) : Type 0 where
 -- A query edge's label is of a byte.
 abbrev pub byteLabel : Edge → Bool
 byteLabel e = ltb (e .label) (suc maxEdgeLabel)
+
+-- What a query vertex asks of a data vertex, as the code has it. No day is asked where the range is the whole.
+unfoldable pub filterOf : QueryStruct → ℕ → FilterStruct
+filterOf d w =
+    record {
+      label = getD (d .labels) w 0;
+      first = getD (d .firsts) w 0;
+      last = getD (d .lasts) w 0;
+      «any_day» = eqb (getD (d .firsts) w 0) 0 && eqb (getD (d .lasts) w 0) maxDay;
+    }

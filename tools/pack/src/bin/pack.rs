@@ -19,11 +19,11 @@ Without [plan] a plan can be drawn by the engine, from C or Rust.
     [graph]
     vertices 2 label 3      # two vertices of label 3, numbers 0 and 1
     vertices 4              # four more of label 0, unlabelled
-    vertex pin label 7      # one with a name, number 6
+    vertex pin label 7 day 2026-11-15   # one with a name, number 6, and its last inspection
     0 -5-> pin              # an edge of label 5; its ends are numbers or names
     [query]                 # written like the graph; vertex label 0 fits every vertex
     vertex a
-    vertex b label 7
+    vertex b label 7 inspected 2025-01-01..2026-11-15   # on these days and between
     vertex c
     a -5-> b
     c -any-> b              # an edge of any label
@@ -36,7 +36,13 @@ Vertices are numbered from 0 in the order of their lines, and are declared above
 Edges stand in any order; pack sorts them, a graph's by source, label and target, a query's by
 source, target and label, where any comes before 1.
 
+A day is a date, or a number of days since 2000-01-01; day 0 is none, and a vertex without 'day' has
+it. 'inspected' has a first and a last day, both inclusive, and each may be left out; a query vertex
+without it fits every day. Day 0 counts as a number: '..2026-06-30' fits what has no day as well,
+'2000-01-02..2026-06-30' does not, and '0..0' fits nothing else.
+
     vertices   graph 0 to 65535, query 2 to 8; label 0 to 65535
+    days       2000-01-02 to 2179-06-06, or 0 to 65535; first not above last
     edges      graph 0 to 1048575, query 1 to 24; label 1 to 255, in a query also any; none
                twice; in a query none from a vertex to itself
     operators  1 to 31

@@ -12,7 +12,8 @@ const HELP: &str = "\
 usage: unpack DIR, or unpack --help
 
 Writes the packed files g.bin, q.bin and p.bin in DIR, those that are there, as a text to standard
-output. From this text pack makes the same files again; pack --help explains it.
+output, with dates for days. From this text pack makes the same files again; pack --help explains
+it.
 
 A malformed file is not unpacked: unpack writes its name, the reason and the number that the engine
 refuses it with. Well-formed files that the engine refuses (11, 15 to 18) are unpacked.

@@ -6,10 +6,10 @@ use native.Mathlib.Omega.{arith}
 use Rattle.lists.specs.Refusal.{refuse}
 use Rattle.lists.proofs.Faults.{refuse-zero}
 use Rattle.packed.specs.Field.{bitsIn}
-use Rattle.query.specs.File.{edgeCount, edgeStart, outsideLimits}
-use Rattle.query.specs.inner.Parts.{limitsFault, sizeFault, queryEdgesFault}
+use Rattle.query.specs.File.{vertexCount, edgeCount, edgeStart, outsideLimits}
+use Rattle.query.specs.inner.Parts.{limitsFault, sizeFault, queryDaysFault, queryEdgesFault}
 use Rattle.query.proofs.Structs.{at-most-vertices, at-most-edges}
-use Rattle.query.proofs.FileLaws.{short-first, limits-first, size-first, edges-last, size-bits}
+use Rattle.query.proofs.FileLaws.{short-first, limits-first, size-first, days-first, edges-last, size-bits}
 use borrow.Author.Needs.{needs}
 use Rattle.query.proofs.file.file_fault.Statement.{statement}
 use Rattle.query.proofs.file.file_fault.Tie as tie
@@ -62,18 +62,49 @@ returns-3 c =
     size (c .before)
     ∙ sym (size-first s (search needs) (within (c .before .before .before)) (λ z. c .if3 .taken (size (c .before) ∙ z)))
 
-edges-fault-requires : tie.Need-edges-fault-requires
-edges-fault-requires c κs =
+-- The file has the bits that its counts ask for.
+bits : (c : tie.Else3)
+    → let s = c .before .before .before .before .before .before .before .before .before .args .file .now in edgeStart s (edgeCount s) ≤ bitsIn s
+bits c =
     let s = c .before .before .before .before .before .before .before .before .before .args .file .now in
-    let in-limits = within (c .before .before .before) in
-    let bits : edgeStart s (edgeCount s) ≤ bitsIn s = size-bits s (edgeStart s (edgeCount s)) (sym (size (c .before)) ∙ c .if3 .left) in
-    (c .before .before .before .before .before .before .vertex-count .ensures, omega (arith, at-most-vertices s in-limits), omega (arith, at-most-edges s in-limits), omega arith)
+    size-bits s (edgeStart s (edgeCount s)) (sym (size (c .before)) ∙ c .if3 .left)
+
+days-fault-requires : tie.Need-days-fault-requires
+days-fault-requires c κs =
+    let s = c .before .before .before .before .before .before .before .before .before .args .file .now in
+    let have = bits c in
+    (omega (arith, at-most-vertices s (within (c .before .before .before))), omega arith)
+
+-- The number of `days_fault` is the definition's 25.
+days : (c : tie.After-days-fault)
+    → let s = c .before .before .before .before .before .before .before .before .before .before .args .file .now in
+    c .days-fault .result ≡ queryDaysFault s (vertexCount s)
+days c =
+    let s = c .before .before .before .before .before .before .before .before .before .before .args .file .now in
+    c .days-fault .ensures ∙ ap (queryDaysFault s) (c .before .before .before .before .before .before .before .vertex-count .ensures)
 
 returns-4 : tie.Need-returns-4
 returns-4 c =
-    let s = c .before .before .before .before .before .before .before .before .before .before .args .file .now in
-    c .edges-fault .ensures ∙ ap (queryEdgesFault s) (c .before .before .before .before .before .before .edge-count .ensures)
-    ∙ sym (edges-last s (search needs) (within (c .before .before .before .before)) (sym (size (c .before .before)) ∙ c .before .if3 .left))
+    let s = c .before .before .before .before .before .before .before .before .before .before .before .args .file .now in
+    days (c .before)
+    ∙ sym
+    (days-first s (search needs) (within (c .before .before .before .before .before)) (sym (size (c .before .before .before)) ∙ c .before .before .if3 .left)
+    (λ z. c .if4 .taken (days (c .before) ∙ z)))
+
+edges-fault-requires : tie.Need-edges-fault-requires
+edges-fault-requires c κs =
+    let s = c .before .before .before .before .before .before .before .before .before .before .before .args .file .now in
+    let in-limits = within (c .before .before .before .before .before) in
+    let have = bits (c .before .before) in
+    (c .before .before .before .before .before .before .before .before .vertex-count .ensures, omega (arith, at-most-vertices s in-limits), omega (arith, at-most-edges s in-limits), omega arith)
+
+returns-5 : tie.Need-returns-5
+returns-5 c =
+    let s = c .before .before .before .before .before .before .before .before .before .before .before .before .args .file .now in
+    c .edges-fault .ensures ∙ ap (queryEdgesFault s) (c .before .before .before .before .before .before .before .before .edge-count .ensures)
+    ∙ sym
+    (edges-last s (search needs) (within (c .before .before .before .before .before .before)) (sym (size (c .before .before .before .before)) ∙ c .before .before .before .if3 .left)
+    (sym (days (c .before .before)) ∙ c .before .if4 .left))
 
 pub file-fault-spec : {M : Type 1} → statement M
 file-fault-spec =
@@ -87,5 +118,7 @@ file-fault-spec =
     edge-start-requires
     size-fault-requires
     returns-3
+    days-fault-requires
+    returns-4
     edges-fault-requires
-    returns-4)
+    returns-5)

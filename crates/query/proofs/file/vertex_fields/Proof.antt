@@ -1,4 +1,4 @@
--- `query::file::labels` meets its contract: after w vertices, the array has the labels of these. Assumes nothing.
+-- `query::file::vertex_fields` meets its contract: after w vertices, the array has the field of these. Assumes nothing.
 use mathlib.Core.Path.{_≡_, refl}
 use mathlib.Core.List.{map}
 use Prim.Native.Nat.{_-_, _≤_}
@@ -6,17 +6,17 @@ use native.Mathlib.Omega.{arith}
 use borrow.Author.Needs.{needs}
 use Rattle.lists.specs.Lists.{range}
 use Rattle.query.specs.File.{maxVertices}
-use Rattle.query.specs.inner.Parts.{labelIn}
+use Rattle.query.specs.inner.Parts.{vertexField}
 use Rattle.query.specs.Answer.{padded}
 use Rattle.query.proofs.Images.{padded-step}
-use Rattle.query.proofs.file.labels.Statement.{statement}
-use Rattle.query.proofs.file.labels.Tie as tie
+use Rattle.query.proofs.file.vertex_fields.Statement.{statement}
+use Rattle.query.proofs.file.vertex_fields.Tie as tie
 
 abbrev Inv-loop : tie.InvT-loop
-Inv-loop file n a₀ w₀ a w = (w ≤ n) × (a ≡ padded maxVertices (map (labelIn file) (range w)))
+Inv-loop file n offset a₀ w₀ a w = (w ≤ n) × (a ≡ padded maxVertices (map (vertexField file offset) (range w)))
 
 abbrev μ-loop : tie.MeasureT-loop
-μ-loop file n a₀ w₀ a w = n - w
+μ-loop file n offset a₀ w₀ a w = n - w
 
 loop-holds : tie.Need-loop-holds Inv-loop μ-loop
 unfolding padded range
@@ -27,6 +27,9 @@ mul-field c = search needs
 
 add-field : tie.Need-add-field Inv-loop μ-loop
 add-field c = search needs
+
+add-field-2 : tie.Need-add-field-2 Inv-loop μ-loop
+add-field-2 c = search needs
 
 field-requires : tie.Need-field-requires Inv-loop μ-loop
 field-requires c κs = search needs
@@ -44,18 +47,19 @@ loop-less : tie.Need-loop-less Inv-loop μ-loop
 loop-less c = search needs
 
 loop-again : tie.Need-loop-again Inv-loop μ-loop
-loop-again c = (
-  omega arith,
-  padded-step (labelIn (c .before .before .before .before .args .file .now)) maxVertices _ _ _ (omega arith) (c .field .ensures) (c .before .before .loop .inv .1),
-)
+loop-again c =
+    let a = c .before .before .before .before .args in (
+      omega arith,
+      padded-step (vertexField (a .file .now) (a .offset)) maxVertices _ _ _ (omega arith) (c .field .ensures) (c .before .before .loop .inv .1),
+    )
 
 returns : tie.Need-returns Inv-loop μ-loop
 returns c =
     let all : c .before .loop .w ≡ c .before .before .before .args .n = omega arith in
     rw all at (c .before .loop .inv .1)
 
-pub labels-spec : {M : Type 1} → statement M
-labels-spec =
+pub vertex-fields-spec : {M : Type 1} → statement M
+vertex-fields-spec =
     tie.close
     (tie.spec
     Inv-loop
@@ -63,6 +67,7 @@ labels-spec =
     loop-holds
     mul-field
     add-field
+    add-field-2
     field-requires
     mul-a
     array-write-a
