@@ -1,5 +1,6 @@
 -- Laws of the hash join.
 pub mod Keys
+pub mod Crossing
 pub mod Chains
 pub mod Tables
 pub mod Places
