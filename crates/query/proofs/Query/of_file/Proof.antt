@@ -69,7 +69,8 @@ pair-count-requires c κs =
     let s = c .before .before .before .before .before .before .before .before .before .args .file .now in
     let few = at-most-vertices s (c .before .before .before .before .before .before .before .before .before .pre .limits) in
     let m-few = at-most-edges s (c .before .before .before .before .before .before .before .before .before .pre .limits) in
-    (c .before .before .before .before .before .before .before .vertex-count .ensures, c .before .before .before .before .before .before .edge-count .ensures, omega arith, omega arith, omega arith)
+    let n = c .before .before .before .before .before .before .before in
+    (n .vertex-count .ensures, c .before .before .before .before .before .before .edge-count .ensures, omega arith, omega arith, omega arith)
 
 mul-from : tie.Need-mul-from
 mul-from c =
@@ -110,9 +111,13 @@ pair-fields-requires-2 c κs =
 
 returns : tie.Need-returns
 returns c =
-    struct-read (c .before .before .before .before .before .before .before .before .before .before .before .before .args .file .now) _ _ _ _ _ (c .before .before .before .before .before .before .before .before .before .before .vertex-count .ensures) (c .before .before .before .before .before .before .before .before .before .edge-count .ensures) (c .before .before .pair-count .ensures) refl refl
-    _ _ _ _ _ _ _ _ (c .before .before .before .before .before .before .before .before .vertex-fields .ensures) (c .before .before .before .before .before .before .before .vertex-fields2 .ensures) (c .before .before .before .before .before .before .vertex-fields3 .ensures)
-    (c .before .before .before .before .before .edge-fields .ensures) (c .before .before .before .before .edge-fields2 .ensures) (c .before .before .before .edge-fields3 .ensures) (c .before .pair-fields .ensures) (c .pair-fields2 .ensures)
+    let p = c .before .before in
+    let e = p .before in
+    let v = e .before .before .before in
+    let n = v .before .before .before .before in
+    struct-read (n .before .before .args .file .now) _ _ _ _ _ (n .vertex-count .ensures) (v .before .before .before .edge-count .ensures) (p .pair-count .ensures) refl refl
+    _ _ _ _ _ _ _ _ (v .before .before .vertex-fields .ensures) (v .before .vertex-fields2 .ensures) (v .vertex-fields3 .ensures)
+    (e .before .before .edge-fields .ensures) (e .before .edge-fields2 .ensures) (e .edge-fields3 .ensures) (c .before .pair-fields .ensures) (c .pair-fields2 .ensures)
 
 pub of-file-spec : {M : Type 1} → statement M
 of-file-spec =

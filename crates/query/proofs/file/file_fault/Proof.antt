@@ -57,7 +57,9 @@ returns-3 c =
 sized : (c : tie.Else3) → sizesFault (c .before .before .before .before .before .before .before .before .args .file .now) ≡ 0
 sized c = sym (c .before .sizes-fault .ensures) ∙ c .if3 .left
 
-bits : (c : tie.Else3) → let s = c .before .before .before .before .before .before .before .before .args .file .now in pairStart s (pairCount s) ≤ bitsIn s
+bits : (c : tie.Else3)
+    → let s = c .before .before .before .before .before .before .before .before .args .file .now in
+    pairStart s (pairCount s) ≤ bitsIn s
 bits c = sizes-bits (c .before .before .before .before .before .before .before .before .args .file .now) (sized c)
 
 days-fault-requires : tie.Need-days-fault-requires
@@ -67,7 +69,9 @@ days-fault-requires c κs =
     (omega (arith, at-most-vertices s (within (c .before .before))), omega arith)
 
 -- The number of `days_fault` is the definition's 25.
-days : (c : tie.After-days-fault) → let s = c .before .before .before .before .before .before .before .before .before .args .file .now in c .days-fault .result ≡ queryDaysFault s (vertexCount s)
+days : (c : tie.After-days-fault)
+    → let s = c .before .before .before .before .before .before .before .before .before .args .file .now in
+    c .days-fault .result ≡ queryDaysFault s (vertexCount s)
 days c =
     let s = c .before .before .before .before .before .before .before .before .before .args .file .now in
     c .days-fault .ensures ∙ ap (queryDaysFault s) (c .before .before .before .before .before .before .vertex-count .ensures)
@@ -78,7 +82,9 @@ returns-4 c =
     days (c .before)
     ∙ sym (days-first s (search needs) (within (c .before .before .before .before)) (sized (c .before .before)) (λ z. c .if4 .taken (days (c .before) ∙ z)))
 
-dated : (c : tie.Else4) → let s = c .before .before .before .before .before .before .before .before .before .before .args .file .now in queryDaysFault s (vertexCount s) ≡ 0
+dated : (c : tie.Else4)
+    → let s = c .before .before .before .before .before .before .before .before .before .before .args .file .now in
+    queryDaysFault s (vertexCount s) ≡ 0
 dated c = sym (days (c .before)) ∙ c .if4 .left
 
 edges-fault-requires : tie.Need-edges-fault-requires
@@ -89,7 +95,9 @@ edges-fault-requires c κs =
     (c .before .before .before .before .before .before .before .vertex-count .ensures, omega (arith, at-most-vertices s in-limits), omega (arith, at-most-edges s in-limits), omega arith)
 
 -- The number of `edges_fault` is the definition's 9 or 10.
-edges : (c : tie.After-edges-fault) → let s = c .before .before .before .before .before .before .before .before .before .before .before .args .file .now in c .edges-fault .result ≡ queryEdgesFault s (edgeCount s)
+edges : (c : tie.After-edges-fault)
+    → let s = c .before .before .before .before .before .before .before .before .before .before .before .args .file .now in
+    c .edges-fault .result ≡ queryEdgesFault s (edgeCount s)
 edges c =
     let s = c .before .before .before .before .before .before .before .before .before .before .before .args .file .now in
     c .edges-fault .ensures ∙ ap (queryEdgesFault s) (c .before .before .before .before .before .before .before .edge-count .ensures)
