@@ -46,7 +46,7 @@ fn main() -> Result<(), Box<dyn std::error::Error>> {
     let rim = std::env::args().nth(1).map_or(Ok(1000), |word| word.parse())?;
     let store = Store::load(&wheel(rim))?;
 
-    // 0→1, 0→2, 1→2, all of label 1, of items of any label and day; scan edge 0, extend by vertex 2.
+    // 0→1, 0→2, 1→2, all of label 1, of items of any label and day, without pairs; scan edge 0, extend by vertex 2.
     let query = [
         0x31, 0x80, 0x00, 0x00, 0x00, 0x7f, 0xff, 0x80, 0x00, 0x00, 0x00, 0x7f, 0xff, 0x80, 0x00, 0x00, 0x00, 0x7f,
         0xff, 0x82, 0x02, 0x10, 0x09, 0x40, 0x20,

@@ -2,8 +2,9 @@
 //!
 //! The engine is written in Rattle and proved to meet its contracts: after an accepted run the list holds every match of the
 //! query once, and nothing else. A match gives different query vertices different data vertices, each with the label and with one of
-//! the inspection days that its query vertex asks for. This crate is a thin, safe wrapper of its static library. It is not proved: all
-//! that it does is to hand slices over as pointers and lengths, and to turn the answer into a [`Result`].
+//! the inspection days that its query vertex asks for, and of each pair of the query the first a lower number than the second. This crate
+//! is a thin, safe wrapper of its static library. It is not proved: all that it does is to hand slices over as pointers and lengths, and to
+//! turn the answer into a [`Result`].
 //!
 //! ```
 //! use trace::{Buffers, Cache, Store};
@@ -14,7 +15,7 @@
 //!     0x00, 0x00, 0x00, 0x10, 0x00, 0x10, 0x00, 0x00, 0x10, 0x00, 0x20, 0x00, 0x10, 0x10, 0x00, 0x20, 0x00, 0x10, 0x10, 0x00,
 //!     0x30, 0x00, 0x20, 0x10, 0x00, 0x30,
 //! ];
-//! // The triangle 0→1, 0→2, 1→2, of items of any label and day, and the plan 'scan edge 0, extend by vertex 2'.
+//! // The triangle 0→1, 0→2, 1→2, of items of any label and day, without pairs, and the plan 'scan edge 0, extend by vertex 2'.
 //! let query = [
 //!     0x31, 0x80, 0x00, 0x00, 0x00, 0x7f, 0xff, 0x80, 0x00, 0x00, 0x00, 0x7f, 0xff, 0x80, 0x00, 0x00, 0x00, 0x7f, 0xff, 0x82,
 //!     0x02, 0x10, 0x09, 0x40, 0x20,

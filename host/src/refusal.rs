@@ -51,10 +51,11 @@ refusals! {
     PlanStuck = 23, "no uncovered query vertex has an edge to the covered ones";
     PlanBytes = 24, "the bytes of the drawn plan do not fit";
     QueryDays = 25, "a vertex of the query has a first day above its last";
+    QueryPair = 26, "a pair of the query has equal or unknown vertices, or the pairs do not ascend strictly";
 }
 
 impl Refusal {
-    /// Its number, 1 to 25.
+    /// Its number, 1 to 26.
     pub fn number(self) -> u32 {
         self as u32
     }
@@ -78,11 +79,11 @@ mod tests {
     use super::Refusal;
 
     #[test]
-    fn numbers_are_1_to_25_in_order() {
+    fn numbers_are_1_to_26_in_order() {
         let numbers: Vec<u32> = Refusal::ALL.iter().map(|r| r.number()).collect();
-        assert_eq!(numbers, (1..=25).collect::<Vec<_>>());
+        assert_eq!(numbers, (1..=26).collect::<Vec<_>>());
         assert_eq!(Refusal::from_number(20), Some(Refusal::ScratchSmall));
         assert_eq!(Refusal::from_number(0), None);
-        assert_eq!(Refusal::from_number(26), None);
+        assert_eq!(Refusal::from_number(27), None);
     }
 }

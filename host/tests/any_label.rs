@@ -150,7 +150,7 @@ fn pair(query: &Query, edge: usize) -> (usize, usize) {
 /// The query with one label for every edge.
 fn relabelled(query: &Query, label: u8) -> Query {
     let edges = query.edges.iter().map(|&(a, b, _)| (a, b, label)).collect();
-    Query::new(query.labels.clone(), edges).inspected(&query.days)
+    Query::new(query.labels.clone(), edges).inspected(&query.days).paired(&query.pairs)
 }
 
 /// The graph with label 1 for every edge.
@@ -171,7 +171,7 @@ fn the_only_label() {
 #[test]
 fn labels_forgotten() {
     let twins = |graph: Graph, query: Query| [of_one_label(&graph), graph].map(|graph| (graph, relabelled(&query, 0)));
-    let (rows, dearer) = compare(6_000..12_000, twins);
+    let (rows, dearer) = compare(6_000..14_000, twins);
     assert!(rows > 50_000 && dearer > 500, "{rows} rows, {dearer} with another cost");
 }
 
@@ -180,10 +180,10 @@ fn labels_forgotten() {
 fn any_label_beside_a_label() {
     let twins = |graph: Graph, query: Query| {
         let more = query.edges.iter().flat_map(|&(a, b, label)| [(a, b, label), (a, b, 0)]).collect();
-        let more = Query::new(query.labels.clone(), more).inspected(&query.days);
+        let more = Query::new(query.labels.clone(), more).inspected(&query.days).paired(&query.pairs);
         let more = if more.edges.len() <= 24 { more } else { query.clone() };
         [(graph.clone(), query), (graph, more)]
     };
-    let (rows, dearer) = compare(12_000..24_000, twins);
+    let (rows, dearer) = compare(14_000..28_000, twins);
     assert!(rows > 20_000 && dearer > 500, "{rows} rows, {dearer} with another cost");
 }

@@ -3,7 +3,7 @@ mod judge;
 
 use judge::calls;
 use judge::plan;
-use judge::query::{Query, QueryEdge, EVER};
+use judge::query::{Pair, Query, QueryEdge, EVER};
 use judge::random::{each, Random};
 
 /// Compares the answer; answers the refusal.
@@ -21,7 +21,7 @@ fn compare(r: &Random, query: &[u8], plan: &[u8]) -> u32 {
 fn disturb(r: &Random, query: &mut Query) {
     let at = r.below(query.edges.len());
     let v = r.below(query.vertices());
-    match r.below(8) {
+    match r.below(11) {
         0 => query.edges[at].2 = 0,
         1 => query.edges[at].1 = query.edges[at].0,
         2 => query.edges[at].0 = r.below(8),
@@ -36,13 +36,16 @@ fn disturb(r: &Random, query: &mut Query) {
             query.days.resize(n, EVER);
         }
         6 => query.days[v] = (r.day(), r.day()),
-        _ => query.days[v].0 = query.days[v].1.wrapping_add(1),
+        7 => query.days[v].0 = query.days[v].1.wrapping_add(1),
+        8 => query.pairs.insert(r.below(query.pairs.len() + 1), (r.below(8), r.below(8))),
+        9 => query.pairs = vec![(v, v)],
+        _ => query.pairs.reverse(),
     }
 }
 
 #[test]
 fn random_queries_and_plans_valid_and_damaged() {
-    let mut seen = [0; 26];
+    let mut seen = [0; 27];
     each(0..60_000, |r| {
         let mut query = Query::random(r, 8);
         let mut operators = plan::random(r, &query);
@@ -62,7 +65,7 @@ fn random_queries_and_plans_valid_and_damaged() {
         }
         seen[compare(r, &query, &plan) as usize] += 1;
     });
-    assert!((6..19).chain([0, 25]).all(|k| seen[k] > 50), "each answer is met often: {seen:?}");
+    assert!((6..19).chain([0, 25, 26]).all(|k| seen[k] > 50), "each answer is met often: {seen:?}");
 }
 
 #[test]
@@ -161,8 +164,8 @@ fn late(r: &Random, file: &[u8], plan: &[u8]) {
         assert_eq!(compare(r, &file[..length], plan), 6, "{file:02x?}, {length} bytes");
     }
     assert_eq!(compare(r, &[file, &[0]].concat(), plan), 7, "{file:02x?}");
-    // 9 + 3 × 48 + 2 × 14 bits: three are left.
-    for bit in 0..3 {
+    // 9 + 3 × 48 + 2 × 14 + 4 bits: seven are left.
+    for bit in 0..7 {
         let mut file = file.to_vec();
         *file.last_mut().unwrap() |= 1 << bit;
         assert_eq!(compare(r, &file, plan), 7, "{file:02x?}");
@@ -171,6 +174,89 @@ fn late(r: &Random, file: &[u8], plan: &[u8]) {
     for first in [0x91, 0x01] {
         assert_eq!(compare(r, &[&[first], &file[1..]].concat(), plan), 8, "{file:02x?}");
     }
+}
+
+/// A pair is of two vertices that the query has, and pairs ascend strictly: by the first, then the second.
+#[test]
+fn pairs_of_query_vertices() {
+    each(0..1, |r| {
+        let path = |n: usize| Query::plain(n, &(1..n).map(|v| (v - 1, v)).collect::<Vec<_>>());
+        let all: Vec<Pair> = (0..8).flat_map(|low| (0..8).map(move |high| (low, high))).collect();
+        for n in 2..=8 {
+            let known = |&(low, high): &Pair| low < n && high < n && low != high;
+            let read = |pairs: &[Pair]| compare(r, &path(n).paired(pairs).file(), &[]);
+            for one in &all {
+                assert_eq!(read(&[*one]), if known(one) { 12 } else { 26 }, "{n} vertices, {one:?}");
+                for two in &all {
+                    let want = if known(one) && known(two) && one < two { 12 } else { 26 };
+                    assert_eq!(read(&[*one, *two]), want, "{n} vertices, {one:?}, {two:?}");
+                }
+            }
+            // As many as go; the last is made faulty.
+            let mut most: Vec<Pair> = all.iter().copied().filter(known).take(15).collect();
+            assert_eq!(read(&most), 12, "{n} vertices, {most:?}");
+            *most.last_mut().unwrap() = (0, 0);
+            assert_eq!(read(&most), 26, "{n} vertices, {most:?}");
+        }
+    });
+}
+
+/// A faulty pair is refused after the lengths, the days and all edges, and before an unconnected query.
+#[test]
+fn the_place_of_pairs() {
+    each(0..1, |r| {
+        let plan = plan::file(&[plan::Operator::Scan(0)]);
+        let before: [(u32, &[QueryEdge]); 6] = [
+            (26, &[(0, 1, 1), (1, 2, 1)]),
+            (26, &[(0, 1, 1), (1, 0, 1)]),
+            (9, &[(0, 1, 1), (2, 2, 1)]),
+            (9, &[(0, 1, 1), (0, 7, 1)]),
+            (10, &[(1, 2, 1), (0, 1, 1)]),
+            (10, &[(0, 1, 1), (0, 1, 1)]),
+        ];
+        let faulty: [&[Pair]; 5] = [&[(1, 1)], &[(3, 0)], &[(0, 1), (0, 1)], &[(1, 0), (0, 1)], &[(0, 1), (7, 7)]];
+        for (want, edges) in before {
+            for pairs in faulty {
+                let query = Query::as_given(vec![0; 3], edges.to_vec()).paired(pairs);
+                assert_eq!(compare(r, &query.file(), &plan), want, "{query:?}");
+                assert_eq!(compare(r, &query.file(), &[]), want, "{query:?}");
+                let late = query.inspected(&[EVER, EVER, (2, 1)]);
+                assert_eq!(compare(r, &late.file(), &plan), 25, "{late:?}");
+            }
+        }
+        let apart = Query::plain(3, &[(0, 1), (1, 0)]).paired(&[(0, 1), (1, 0)]);
+        assert_eq!(compare(r, &apart.file(), &plan), 11);
+    });
+}
+
+/// 6 at every byte before the end, whatever the pairs, and 7 for a byte or a fill bit more, for every count; count and pairs may begin
+/// anywhere in a byte.
+#[test]
+fn lengths_of_pairs() {
+    each(0..1, |r| {
+        let all: Vec<Pair> = (0..4).flat_map(|a| (0..3).map(move |b| (a, b + usize::from(a <= b)))).collect();
+        for (edges, count) in (3..11).flat_map(|edges| (0..=15).map(move |count| (edges, count))) {
+            let edges: Vec<QueryEdge> = all.iter().take(edges).map(|&(a, b)| (a, b, 1)).collect();
+            let bits = 9 + 4 * 48 + 14 * edges.len() + 4 + 6 * count;
+            for (pairs, want) in [(vec![(2, 2); count], 26), (all.iter().copied().take(count).collect(), 12)] {
+                if pairs.len() < count {
+                    continue;
+                }
+                let file = Query::as_given(vec![0; 4], edges.clone()).paired(&pairs).file();
+                assert_eq!(file.len(), bits.div_ceil(8));
+                assert_eq!(compare(r, &file, &[]), if count == 0 { 12 } else { want }, "{file:02x?}");
+                for length in 0..file.len() {
+                    assert_eq!(compare(r, &file[..length], &[]), 6, "{file:02x?}, {length} bytes");
+                }
+                assert_eq!(compare(r, &[&file[..], &[0]].concat(), &[]), 7, "{file:02x?}");
+                for bit in 0..8 * file.len() - bits {
+                    let mut file = file.clone();
+                    *file.last_mut().unwrap() |= 1 << bit;
+                    assert_eq!(compare(r, &file, &[]), 7, "{file:02x?}");
+                }
+            }
+        }
+    });
 }
 
 #[test]

@@ -30,7 +30,7 @@ fn compare(r: &Random, store: &[u32], query: &[u8], room: usize) -> u32 {
 /// Bytes from none to beyond the need, with words past the store's used ones.
 #[test]
 fn random_graphs_and_queries() {
-    let mut seen = [0; 26];
+    let mut seen = [0; 27];
     each(0..20_000, |r| {
         let extra = r.below(4);
         let store = [Graph::random(r, 12).store(), r.words(extra)].concat();
@@ -68,7 +68,7 @@ fn large_queries() {
 #[test]
 fn rows_of_drawn_plans() {
     let (mut rows, mut skipped) = (0, 0);
-    each(0..30_000, |r| {
+    each(0..36_000, |r| {
         let graph = Graph::random(r, 12);
         let query = Query::random(r, 6);
         let every: Vec<usize> = (0..query.vertices()).collect();
@@ -95,13 +95,14 @@ fn rows_of_drawn_plans() {
 /// Damaged queries are refused before the store is looked at, damaged stores before the bytes.
 #[test]
 fn damaged_files_and_stores() {
-    let mut seen = [0; 26];
+    let mut seen = [0; 27];
     each(0..30_000, |r| {
         let mut store = Graph::random(r, 7).store();
         let mut query = Query::random(r, 8);
         match r.below(20) {
             0 => query.days[0] = (r.day(), 0),
             1 => query.edges.truncate(1),
+            2 => query.pairs = vec![(r.below(8), r.below(8)); 1 + r.below(2)],
             _ => (),
         }
         let mut query = query.file();
@@ -115,7 +116,7 @@ fn damaged_files_and_stores() {
         let room = r.below(8);
         seen[compare(r, &store, &query, room) as usize] += 1;
     });
-    assert!([0, 6, 7, 8, 9, 10, 11, 19, 24, 25].iter().all(|&k| seen[k] > 20), "{seen:?}");
+    assert!([0, 6, 7, 8, 9, 10, 11, 19, 24, 25, 26].iter().all(|&k| seen[k] > 20), "{seen:?}");
 }
 
 /// Words and bytes of any kind.

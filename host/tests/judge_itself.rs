@@ -11,7 +11,7 @@ use std::collections::BTreeMap;
 /// Rows, order, cost, sums and need are those that the rules' own words give.
 #[test]
 fn the_rules_in_words() {
-    let [mut rows, mut joins, mut any, mut inspected] = [0; 4];
+    let [mut rows, mut joins, mut any, mut inspected, mut paired] = [0; 5];
     each(0..40_000, |r| {
         let (graph, query) = (Graph::random(r, 6), Query::random(r, 4));
         let plan = plan::random(r, &query);
@@ -21,20 +21,26 @@ fn the_rules_in_words() {
         rows += answer.count;
         joins += usize::from(answer.build > 0 && answer.probe > 0);
         any += usize::from(answer.count > 0 && query.edges.iter().any(|edge| edge.2 == 0));
-        let every = Query { days: vec![EVER; query.vertices()], ..query };
-        let without = in_words::run(&graph, &every, &plan, cache).count;
-        inspected += usize::from(0 < answer.count && answer.count < without);
+        let some_of = |query: Query| {
+            let all = in_words::run(&graph, &query, &plan, cache).count;
+            usize::from(0 < answer.count && answer.count < all)
+        };
+        inspected += some_of(Query { days: vec![EVER; query.vertices()], ..query.clone() });
+        paired += some_of(query.paired(&[]));
     });
     assert!(rows > 15_000 && joins > 500 && any > 1_000, "{rows} rows, {joins} joins, {any} with rows and label 0");
     assert!(inspected > 200, "{inspected} in which days leave some rows and not all");
+    assert!(paired > 200, "{paired} in which pairs do");
 }
 
 /// The random queries of the tests: without label 0, with it beside other labels, with nothing else, and with both between one pair;
-/// with ranges of days, some of one day, some that begin at 0 or end at 65,535 and not both.
+/// with ranges of days, some of one day, some that begin at 0 or end at 65,535 and not both; with pairs, one or many, some of which
+/// contradict each other.
 #[test]
 fn the_mix_of_queries() {
     let [mut none, mut some, mut all, mut beside] = [0; 4];
     let [mut asked, mut one_day, mut open] = [0; 3];
+    let [mut paired, mut many, mut contradicting] = [0; 3];
     each(0..10_000, |r| {
         let query = Query::random(r, 8);
         assert_eq!(Query::read(&query.file()).as_ref(), Ok(&query));
@@ -48,9 +54,13 @@ fn the_mix_of_queries() {
         asked += usize::from(query.days.iter().any(|&days| days != EVER));
         one_day += usize::from(query.days.iter().any(|(first, last)| first == last));
         open += usize::from(query.days.iter().any(|&(first, last)| (first == 0) != (last == 65_535)));
+        paired += usize::from(!query.pairs.is_empty());
+        many += usize::from(query.pairs.len() > 5);
+        contradicting += usize::from(query.pairs.iter().any(|&(low, high)| query.pairs.contains(&(high, low))));
     });
     assert!(none > 4_000 && some > 3_000 && all > 300 && beside > 1_500, "{none}, {some}, {all}, {beside}");
     assert!(asked > 2_000 && one_day > 500 && open > 1_000, "{asked}, {one_day}, {open}");
+    assert!(paired > 2_000 && many > 50 && contradicting > 50, "{paired}, {many}, {contradicting}");
 }
 
 /// The random graphs of the tests: with several labels between a pair, with many, and with lists that do not ascend by vertex; without

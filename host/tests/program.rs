@@ -1,34 +1,16 @@
-//! The program `trace`: all that it prints, on the examples, at its bounds, and for every refusal that it can give.
+//! The program `trace`: all that it prints, on the examples and at its bounds.
 mod judge;
 
-use judge::bits::pack;
-use judge::graph::{Edge, Graph};
+use judge::graph::Graph;
+use judge::hangs::{extend, files, join, scan, sized, stretched, with, worked, WORKED};
 use judge::plan::{self, Operator};
 use judge::program::{answer, printed, run, run_places, run_reading, unbounded, Files, Place, FILES, MAX_BYTES};
-use judge::query::{Query, QueryEdge};
+use judge::query::Query;
 use judge::random::each;
 use judge::worked::{bundle, diamond, doubled, g, graph, k, triangle, two_bundles};
 use std::collections::BTreeSet;
 use std::path::Path;
-use Operator::{Extend, Join, Scan, Unknown};
-
-const WORKED: &str = "matches 2 cost 13 build 0 probe 0\n0 1 2\n1 2 3\n";
-
-/// G, Q and P.
-fn worked() -> Files {
-    files(&g(), &triangle(), &[Scan(0), Extend(2)])
-}
-
-fn files(graph: &Graph, query: &Query, operators: &[Operator]) -> Files {
-    [graph.file(), query.file(), plan::file(operators)]
-}
-
-/// A file with zeros to this length.
-fn stretched(file: &[u8], length: usize) -> Vec<u8> {
-    let mut file = file.to_vec();
-    file.resize(length, 0);
-    file
-}
+use Operator::{Extend, Join, Scan};
 
 #[test]
 fn the_examples() {
@@ -43,7 +25,7 @@ fn the_examples() {
         assert_eq!(run(&files), expected, "{folder:?}");
         count += 1;
     }
-    assert!(count >= 6, "{count} examples");
+    assert!(count >= 7, "{count} examples");
 }
 
 /// The document's cases, with the cache on, and fields of one digit and of four, rows of two columns and of eight.
@@ -159,13 +141,6 @@ fn links() {
     }
 }
 
-/// A graph of so many vertices and edges: from each vertex at most five edges, of labels 1 to 5, none to itself.
-fn sized(n: u16, m: u16) -> Graph {
-    assert!(m <= 5 * n);
-    let edges = (0..m).map(|i| (i / 5, 1 + (i % 5) as u8, (i / 5 + 7 + i % 5) % n)).collect();
-    Graph::as_given(vec![0; n.into()], edges)
-}
-
 /// The longest file, of 5 + 4N + 5M bytes, and the largest store: 4N + 2M + 4 words, always an even number.
 #[test]
 fn the_largest_graphs() {
@@ -190,149 +165,6 @@ fn the_largest_graphs() {
     }
 }
 
-/// A refusal, and files that get it.
-type Refused = (u32, Files);
-
-/// Files of which every cut is too short, and a further byte or a fill bit too much.
-fn cut_and_stretched(at: usize, fill: u32, short: u32, long: u32) -> Vec<Refused> {
-    let file = &worked()[at];
-    let mut cases: Vec<(u32, Vec<u8>)> = (0..file.len()).map(|length| (short, file[..length].to_vec())).collect();
-    cases.push((long, stretched(file, file.len() + 1)));
-    for bit in 0..fill {
-        let mut file = file.clone();
-        *file.last_mut().unwrap() |= 1 << bit;
-        cases.push((long, file));
-    }
-    cases.into_iter().map(|(refusal, file)| (refusal, with(at, file))).collect()
-}
-
-/// G, Q and P, with another file in place of one.
-fn with(at: usize, file: Vec<u8>) -> Files {
-    let mut files = worked();
-    files[at] = file;
-    files
-}
-
-fn of_load() -> Vec<Refused> {
-    let file = |edges: &[Edge]| Graph::as_given(vec![0; 4], edges.to_vec()).file();
-    let mut late = sized(342, 1_363);
-    late.edges[1_362].1 = 0;
-    let mut cases = cut_and_stretched(0, 4, 1, 2);
-    for (refusal, file) in [
-        (1, vec![0, 1, 0, 0, 0]),
-        (1, vec![255; MAX_BYTES]),
-        (3, file(&[(0, 1, 1), (4, 1, 0)])),
-        (3, file(&[(0, 1, 4)])),
-        (3, file(&[(0, 1, 65_535)])),
-        (3, file(&[(0, 0, 1)])),
-        (3, file(&[(0, 1, 4), (0, 1, 1)])),
-        (3, late.file()),
-        (4, file(&[(0, 1, 1), (0, 1, 1)])),
-        (4, file(&[(0, 1, 2), (0, 1, 1)])),
-        (4, file(&[(0, 2, 1), (0, 1, 2)])),
-        (4, file(&[(1, 1, 1), (0, 2, 2)])),
-        (4, file(&[(0, 1, 2), (0, 1, 1), (0, 1, 4)])),
-        (5, sized(342, 1_363).file()),
-    ] {
-        cases.push((refusal, with(0, file)));
-    }
-    cases
-}
-
-fn of_read_query() -> Vec<Refused> {
-    let query = |n: usize, edges: &[QueryEdge]| Query::as_given(vec![0; n], edges.to_vec());
-    let file = |n: usize, edges: &[QueryEdge]| query(n, edges).file();
-    let late = |n: usize, edges: &[QueryEdge]| Query { days: vec![(6, 5); n], ..query(n, edges) }.file();
-    let all: Vec<QueryEdge> = (0..5).flat_map(|a| (0..5).map(move |b| (a, b + usize::from(a <= b), 1))).collect();
-    let mut cases = cut_and_stretched(1, 5, 6, 7);
-    for (refusal, file) in [
-        (8, pack([(0, 4), (1, 5)])),
-        (8, pack([(1, 4), (1, 5)])),
-        (8, pack([(2, 4), (0, 5)])),
-        (8, file(1, &[(0, 1, 1)])),
-        (8, file(9, &[(0, 1, 1)])),
-        (8, file(15, &[(0, 1, 1)])),
-        (8, file(6, &[])),
-        (8, file(6, &all[..25])),
-        (9, file(3, &[(0, 1, 1), (0, 3, 1)])),
-        (9, file(3, &[(3, 0, 1)])),
-        (9, file(3, &[(1, 1, 1)])),
-        (9, file(3, &[(1, 1, 0)])),
-        (9, file(3, &[(0, 1, 0), (0, 3, 0)])),
-        (9, file(3, &[(2, 2, 1), (0, 1, 1)])),
-        (10, file(3, &[(0, 1, 1), (0, 1, 1)])),
-        (10, file(3, &[(0, 1, 2), (0, 1, 1)])),
-        (10, file(3, &[(0, 1, 1), (0, 1, 0)])),
-        (10, file(3, &[(0, 1, 0), (0, 1, 0)])),
-        (10, file(3, &[(0, 2, 1), (0, 1, 2)])),
-        (10, file(3, &[(1, 2, 1), (0, 1, 1), (2, 2, 1)])),
-        (11, file(3, &[(0, 1, 1)])),
-        (11, file(3, &[(0, 1, 0)])),
-        (11, file(3, &[(0, 1, 0), (0, 1, 1)])),
-        (11, file(4, &[(0, 1, 1), (2, 3, 1)])),
-        (25, late(3, &[(0, 1, 1), (1, 2, 1)])),
-        (25, late(3, &[(1, 1, 1), (0, 1, 1)])),
-        (25, late(3, &[(0, 1, 1)])),
-        (8, late(9, &[(0, 1, 1)])),
-    ] {
-        cases.push((refusal, with(1, file)));
-    }
-    cases
-}
-
-fn of_check_plan() -> Vec<Refused> {
-    let apart = Query::plain(5, &[(0, 1), (1, 4), (2, 3), (3, 4)]);
-    let complete = Query::plain(8, &(0..24).map(|i| (i / 7, i % 7 + usize::from(i / 7 <= i % 7))).collect::<Vec<_>>());
-    assert_eq!(complete.edges.len(), 24);
-    let mut cases = cut_and_stretched(2, 7, 12, 13);
-    cases.push((12, with(2, pack([(31, 5), (0, 2), (0, 5)]))));
-    cases.push((14, with(2, pack([(0, 5)]))));
-    for (refusal, query, operators) in [
-        (14, triangle(), &[Scan(0), Unknown][..]),
-        (14, triangle(), &[Scan(3)]),
-        (14, triangle(), &[Scan(0), Extend(3)]),
-        (15, triangle(), &[Extend(2)]),
-        (15, triangle(), &[Scan(0), Join]),
-        (15, triangle(), &[Scan(0), Extend(2), Scan(0)]),
-        (16, triangle(), &[Scan(0), Extend(1)]),
-        (16, apart.clone(), &[Scan(0), Extend(2)]),
-        (17, apart, &[Scan(0), Scan(2), Join]),
-        (17, triangle(), &[Scan(0), Extend(2), Scan(0), Join]),
-        (17, triangle(), &[Scan(0), Scan(0), Extend(2), Join]),
-        (17, diamond(), &[Scan(0), Extend(3), Scan(1), Extend(3), Join]),
-        (18, triangle(), &[Scan(0)]),
-        (18, complete, &[Scan(23)]),
-    ] {
-        cases.push((refusal, files(&g(), &query, operators)));
-    }
-    cases
-}
-
-/// Edges of label 1, scanned: so many rows.
-fn scan(rows: u16) -> Files {
-    let pairs: Vec<(u16, u16)> = (0..rows).map(|i| (i / 33, 33 + i % 33)).collect();
-    files(&graph(66, &pairs), &Query::plain(2, &[(0, 1)]), &[Scan(0)])
-}
-
-fn two_labels() -> Query {
-    Query::new(vec![0; 3], vec![(0, 1, 1), (1, 2, 2)])
-}
-
-/// So many edges of label 1, of which the first is extended to so many rows by edges of label 2. Its set of new vertices has besides
-/// 1 or 2 that the row has already, or none.
-fn extend(operands: u16, rows: u16, struck: u16) -> Files {
-    let edges = (1..=operands).map(|t| (0, 1, t)).chain((2 - struck..2 + rows).map(|t| (1, 2, t))).collect();
-    files(&Graph::new(vec![0; 700], edges), &two_labels(), &[Scan(0), Extend(2)])
-}
-
-/// So many edges of label 1, joined with so many of label 2: four rows, since two of each meet in vertex 40.
-fn join(build: u16, probe: u16) -> Files {
-    let mut edges: Vec<Edge> = vec![(0, 1, 40), (1, 1, 40), (40, 2, 41), (40, 2, 42)];
-    edges.extend((0..build - 2).map(|i| (i / 16, 1, 64 + i % 16)));
-    edges.extend((0..probe - 2).map(|i| (16 + i / 22, 2, 41 + i % 22)));
-    files(&Graph::new(vec![0; 80], edges), &two_labels(), &[Scan(0), Scan(1), Join])
-}
-
 /// Needs of 2,048 words, which run, and of few words more. The rows of the first fill the list too.
 #[test]
 fn the_last_word_of_the_scratch() {
@@ -354,23 +186,6 @@ fn the_last_word_of_the_scratch() {
         assert_eq!(text == "refused 20\n", need > 2_048, "{text}");
         assert_eq!(text, printed(&files));
     }
-}
-
-fn of_run() -> Vec<Refused> {
-    [scan(1_025), extend(1, 512, 0), extend(4, 510, 1), join(253, 511)].into_iter().map(|files| (20, files)).collect()
-}
-
-/// Each refusal that the program can give. Not 19, since Run gets the store that Load wrote; nor 22, since it lends 31 records;
-/// nor 21, since the need counts the rows of the last result and the list is as long as the scratch: rows that do not fit it are
-/// refused with 20.
-#[test]
-fn every_refusal() {
-    let mut seen = BTreeSet::new();
-    for (refusal, files) in [of_load(), of_read_query(), of_check_plan(), of_run()].concat() {
-        assert_eq!(run(&files), format!("refused {refusal}\n"), "{files:02x?}");
-        seen.insert(refusal);
-    }
-    assert_eq!(seen.into_iter().collect::<Vec<_>>(), (1..=18).chain([20, 25]).collect::<Vec<_>>());
 }
 
 /// Files of any kind, valid and damaged, against the judge.

@@ -75,7 +75,7 @@ impl Case {
 #[test]
 fn small_graphs() {
     let (mut rows, mut joins, mut skipped) = (0, 0, 0);
-    each(0..32_000, |r| {
+    each(0..40_000, |r| {
         let graph = Graph::random(r, 12);
         match Case::random(r, graph, 8, 3_000) {
             Some(case) => {
@@ -137,7 +137,7 @@ fn large_graphs() {
 #[test]
 fn every_length() {
     let mut seen = [0; 22];
-    each(0..400, |r| {
+    each(0..600, |r| {
         let graph = Graph::random(r, 9);
         let Some(case) = Case::random(r, graph, 5, 40) else { return };
         for scratch in 0..case.want.need + 4 {
@@ -172,7 +172,7 @@ fn every_number_of_records() {
 /// Damaged queries and plans are refused as Check plan refuses them, before the records are counted and the store is looked at.
 #[test]
 fn refused_files() {
-    let mut seen = [0; 26];
+    let mut seen = [0; 27];
     each(0..10_000, |r| {
         let query = Query::random(r, 6);
         let mut operators = plan::random(r, &query);

@@ -17,7 +17,8 @@
  *   graph  N (16 bits), M (20), N vertices of label (16), inspection day (16, days since 1 January 2000, 0 for none), M edges of
  *          source (16), label (8), target (16), strictly ascending;
  *   query  n (4 bits, 2 to 8), m (5, 1 to 24), n vertices of label (16, 0 fits all), first day (16), last day (16), both inclusive,
- *          m edges of from (3), to (3), label (8, 0 is any label), strictly ascending;
+ *          m edges of from (3), to (3), label (8, 0 is any label), strictly ascending, a pair count (4 bits), pairs of two vertices
+ *          (3 each), the first of which is to have the lower number, strictly ascending;
  *   plan   operator count (5 bits), then operators of a kind (2 bits): 0 scan of a query edge's index (5), 1 extend by a query
  *          vertex (3), 2 join.
  */
@@ -59,7 +60,9 @@ enum trace_refusal {
     TRACE_RECORDS_SHORT = 22,       /* the list of records is shorter than the plan's operators */
     TRACE_PLAN_STUCK = 23,          /* no uncovered query vertex has an edge to the covered ones */
     TRACE_PLAN_BYTES = 24,          /* the drawn plan's bytes do not fit */
-    TRACE_QUERY_DAYS = 25           /* a vertex has a first day above its last: after 6 to 8, before 9 */
+    TRACE_QUERY_DAYS = 25,          /* a vertex has a first day above its last: after 6 to 8, before 9 */
+    TRACE_QUERY_PAIR = 26           /* a pair has equal vertices or one not below n, or the pairs do not ascend strictly: after 9
+                                       and 10, before 11 */
 };
 
 /* What a run records of one operator: the rows of its result, and its cost. Scans and joins cost 0. */
@@ -77,13 +80,13 @@ uint32_t trace_load(const uint8_t *file, size_t file_len,
                     uint32_t *store, size_t store_len,
                     uint64_t *vertices, uint64_t *edges);
 
-/* Checks a plan against a query, and gives the plan's number of operators. Refusals 6 to 18 and 25. */
+/* Checks a plan against a query, and gives the plan's number of operators. Refusals 6 to 18, 25 and 26. */
 uint32_t trace_check_plan(const uint8_t *query, size_t query_len,
                           const uint8_t *plan, size_t plan_len,
                           uint64_t *operators);
 
 /* Draws a plan for a query over a store, of one scan and n - 2 extends, and gives its length in bytes: at most 6. Refusals 6 to 11,
- * 19 and 23 to 25.
+ * 19 and 23 to 26.
  *
  * The scan is of the query edge whose label has the fewest edges in the store (label 0 has them all), then the lowest index;
  * each extend is by the uncovered vertex with the most query edges to the covered ones, then the lowest number. The first bytes
@@ -94,15 +97,16 @@ uint32_t trace_draw_plan(const uint32_t *store, size_t store_len,
                          uint64_t *bytes);
 
 /* Runs a plan over a store, and gives the number of rows, the cost, and the sums of build rows and probe rows over all joins.
- * Refusals 6 to 22 and 25: 22 comes after those of the plan and before 19.
+ * Refusals 6 to 22, 25 and 26: 22 comes after those of the plan and before 19.
  *
- * A row is n words, the data vertices of query vertices 0 to n - 1, no two the same; the rows are the matches of the query, each
- * once, from the list's first word on. Refused, the list is untouched; accepted, its words past the last row are. The scratch is
- * zero afterwards, whatever the answer. Scratch or list longer than 1,073,741,824 words counts as that long, and the rest is
- * untouched. The first records are those of the plan's operators, in its order; their costs add up to the cost, and the last one's
- * rows are the rows. Refused, the records are untouched; accepted, those past the last operator are. With the cache on, an extend
- * reuses the vertices found for the row just before where it may: the rows are the same, the cost is no higher, and it needs as many
- * words of scratch more as the longest set of vertices it found has. */
+ * A row is n words, the data vertices of query vertices 0 to n - 1, no two the same, and of each pair the first below the second;
+ * the rows are the matches of the query, each once, from the list's first word on. Pairs that contradict each other have none.
+ * Refused, the list is untouched; accepted, its words past the last row are. The scratch is zero afterwards, whatever the answer.
+ * Scratch or list longer than 1,073,741,824 words counts as that long, and the rest is untouched. The first records are those of
+ * the plan's operators, in its order; their costs add up to the cost, and the last one's rows are the rows. Refused, the records
+ * are untouched; accepted, those past the last operator are. With the cache on, an extend reuses the vertices found for the row
+ * just before where it may: the rows are the same, the cost is no higher, and it needs as many words of scratch more as the longest
+ * set of vertices it found has, those that equal a vertex of the row or break a pair among them. */
 uint32_t trace_run(const uint32_t *store, size_t store_len,
                    const uint8_t *query, size_t query_len,
                    const uint8_t *plan, size_t plan_len,

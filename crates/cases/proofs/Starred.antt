@@ -8,12 +8,12 @@ use Rattle.packed.specs.Field.{bitAt, fieldAt, fillSet}
 use Rattle.graph.specs.Graph.{covers, linked, portionLength}
 use Rattle.graph.specs.File.{graphOf, graphFault}
 use Rattle.graph.specs.Store.{offsets, entries, storeOf, loadFault, loadStore, graphIn, wellFormed, storeFault}
-use Rattle.query.specs.Query.{reached, connected}
+use Rattle.query.specs.Query.{paired, reached, connected}
 use Rattle.query.specs.File.{queryOf, queryFault}
 use Rattle.plan.specs.Check.{joinable, ruleFault, covered, endFault, rulesFault}
 use Rattle.plan.specs.File.{place, operatorsOf, planFault, checkFault}
 use Rattle.matching.specs.Row.{members, pack, look}
-use Rattle.matching.specs.Match.{fits, holds, permits}
+use Rattle.matching.specs.Match.{fits, holds, allows, permits}
 use Rattle.operators.specs.Scan.{scans, scanRows}
 use Rattle.operators.specs.Extend.{candidates, grown, sameUsed, reuses, extendAfter, extendRows, portionFor, rowCost, costAfter, extendCost, longestSet}
 use Rattle.operators.specs.Join.{agree, partners, joinRows, heads}
@@ -22,5 +22,5 @@ use Rattle.execution.specs.Run.{topRows, planRows, planCost, planBuild, planPro
 use Rattle.cases.specs.Cases.{passes, starred}
 
 pub starred-pass : all passes starred ≡ true
-unfolding passes starred flatMap flatten range all any keep count total largest same ascendsFrom ascending insert sort first bitAt fieldAt fillSet covers linked portionLength graphOf graphFault offsets entries storeOf loadFault loadStore graphIn wellFormed storeFault reached connected queryOf queryFault joinable ruleFault covered endFault rulesFault place operatorsOf planFault checkFault members pack look fits holds permits scans scanRows candidates grown sameUsed reuses extendAfter extendRows portionFor rowCost costAfter extendCost longestSet agree partners joinRows heads apply costOf buildOf probeOf besidesOf topWords needOf pileAfter sumOver needFrom topRows planRows planCost planBuild planProbe planNeed recordOf recordsFrom planRecords runFault runAnswer runList runRecords
+unfolding passes starred flatMap flatten range all any keep count total largest same ascendsFrom ascending insert sort first bitAt fieldAt fillSet covers linked portionLength graphOf graphFault offsets entries storeOf loadFault loadStore graphIn wellFormed storeFault paired reached connected queryOf queryFault joinable ruleFault covered endFault rulesFault place operatorsOf planFault checkFault members pack look fits holds allows permits scans scanRows candidates grown sameUsed reuses extendAfter extendRows portionFor rowCost costAfter extendCost longestSet agree partners joinRows heads apply costOf buildOf probeOf besidesOf topWords needOf pileAfter sumOver needFrom topRows planRows planCost planBuild planProbe planNeed recordOf recordsFrom planRecords runFault runAnswer runList runRecords
 starred-pass = refl

@@ -2,6 +2,7 @@
 pub mod Bounds
 pub mod Used
 pub mod Turns
+pub mod Spans
 pub mod Struck
 pub mod Rowwise
 pub mod Loop

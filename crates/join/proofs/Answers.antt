@@ -97,8 +97,9 @@ module _ {b p base builds buckets probes top words : ℕ} {t : Layout} (o : Oper
 module _ (b p base builds probes top : ℕ) (before after : List ℕ) (t : Layout) (r : Reached)
     (o : Operands b p base builds probes top (length before)) (is : IsLayout b p base builds (heads builds) (length before) t)
     (room : builds + heads builds ≤ length before - top) (long : length after ≡ length before)
-    (f : Filled (flatMap (probeWords t (columnsFor b p) (buildRows t before)) (rowsOf (t .«probe_width») probes (drop (t .probe) before))) top (t .links) before after r) where
-  module _ (q : Query) (few : q .vertices ≤ maxVertices) (inB : Members (q .vertices) b) (inP : Members (q .vertices) p)
+    (q : Query)
+    (f : Filled (flatMap (probeWords t (columnsFor q b p) (buildRows t before)) (rowsOf (t .«probe_width») probes (drop (t .probe) before))) top (t .links) before after r) where
+  module _ (few : q .vertices ≤ maxVertices) (inB : Members (q .vertices) b) (inP : Members (q .vertices) p)
       (okB : Permitted q (inMask b) (rowsOf (width (q .vertices) (inMask b)) builds (drop base before)))
       (okP : Permitted q (inMask p) (rowsOf (width (q .vertices) (inMask p)) probes (drop (base + builds * width (q .vertices) (inMask b)) before))) where
     abbrev n : ℕ
@@ -135,7 +136,7 @@ module _ (b p base builds probes top : ℕ) (before after : List ℕ) (t : Layou
     probes-are = rw (probe-width, probe-at) refl
 
     words : List ℕ
-    words = flatMap (probeWords t (columnsFor b p) (buildRows t before)) (rowsOf (t .«probe_width») probes (drop (t .probe) before))
+    words = flatMap (probeWords t (columnsFor q b p) (buildRows t before)) (rowsOf (t .«probe_width») probes (drop (t .probe) before))
 
     ends : base + builds * width n B + probes * width n P ≡ top
     ends = rw (sym (width-past n maxVertices B few inB), sym (width-past n maxVertices P few inP)) (o .ends)
@@ -143,7 +144,7 @@ module _ (b p base builds probes top : ℕ) (before after : List ℕ) (t : Layou
     words-rows : words ≡ flatten rows
     unfolding words
     words-rows =
-        ap₂ (λ (bs ps : List (List ℕ)). flatMap (probeWords t (columnsFor b p) bs) ps) builds-are probes-are
+        ap₂ (λ (bs ps : List (List ℕ)). flatMap (probeWords t (columnsFor q b p) bs) ps) builds-are probes-are
         ∙ words-are q b p few inB inP t buildSide probeSide (is .widths)
         (rows-are n B builds (drop base before) (rw length-drop (omega (arith, ends, o .below))))
         (rows-are n P probes (drop (base + builds * width n B) before) (rw length-drop (omega (arith, ends, o .below))))

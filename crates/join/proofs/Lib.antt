@@ -1,5 +1,7 @@
 -- Laws of the hash join.
 pub mod Keys
+pub mod Crossing
+pub mod Parting
 pub mod Chains
 pub mod Tables
 pub mod Places

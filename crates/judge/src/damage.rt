@@ -9,6 +9,7 @@ use crate::tally;
 use crate::tally::DAMAGED;
 use crate::tally::Tally;
 use judge_inputs::bits::add;
+use judge_inputs::bits::bytes_for;
 use judge_inputs::bits::flip;
 use judge_inputs::bits::put_field;
 use judge_inputs::bits::sub;
@@ -30,10 +31,10 @@ fn refusal_of(store: &Store, files: &Files, with: Lent, tally: &mut Tally) -> u3
     let q = query::read_query(query);
     let c = plan::check_plan(query, part(files, PLAN, with.plan));
     let a = runs::run(store, files, with, &mut list, tally);
-    let read = follows(0, q.refusal, 6, 11) | (q.refusal == 25);
+    let read = follows(0, q.refusal, 6, 11) | follows(0, q.refusal, 25, 26);
     let checked = follows(q.refusal, c.refusal, 12, 18);
     let ran = follows(c.refusal, a.refusal, 19, 22);
-    let no_query = (q.query.vertices == 0) & (q.query.edges == 0);
+    let no_query = (q.query.vertices == 0) & (q.query.edges == 0) & (q.query.pairs == 0);
     let zeros = ((q.refusal == 0) | no_query) & ((c.refusal == 0) | (c.operators == 0));
     tally::judge(tally, DAMAGED, read & checked & ran);
     tally::judge(tally, tally::REFUSED, zeros);
@@ -69,6 +70,12 @@ fn judge_bit(store: &Store, files: &mut Files, with: Lent, bit: usize, tally: &m
     flip(files, bit, 1);
 }
 
+// A bit of the query's edges.
+fn edge_bit(q: &Query, seed: &mut u64) -> usize {
+    let back = add(1, below(seed, q[queries::EDGES] % 32 * 14));
+    sub(queries::pairs_at(q), back)
+}
+
 // Turns the range of a vertex into one whose first day is just above its last, or back.
 fn turn_range(q: &Query, files: &mut Files, v: usize, last: usize) {
     let at = 25 + v % 8 * 48;
@@ -88,7 +95,7 @@ fn judge_range(
     let mut w = with;
     let v = below(seed, with.width);
     let last = below(seed, 65535);
-    let edge = 9 + with.width % 16 * 48 + below(seed, q[queries::EDGES] % 32 * 14) % 512;
+    let edge = edge_bit(q, seed);
     turn_range(q, files, v, last);
     judge_refusal(store, files, w, 25, tally);
     flip(files, edge, 1);
@@ -97,6 +104,48 @@ fn judge_range(
     w.query = add(with.query, 1);
     judge_refusal(store, files, w, 7, tally);
     turn_range(q, files, v, last);
+}
+
+// Puts a pair behind those of the query, or takes it away; answers the bytes of the file that has it.
+fn turn_pair(q: &Query, files: &mut Files, pair: usize) -> usize {
+    let count = q[queries::PAIRS];
+    let at = put_field(files, queries::pairs_at(q), 4, count ^ add(count, 1));
+    bytes_for(put_field(files, add(at, count % 16 * 6), 6, pair))
+}
+
+// A further pair gives 26 where it is bad and else not, a file that ends before it 6. Where an edge gives 9 or 10, a bad pair does not
+// change that; where the query is not connected, it does.
+fn judge_pair(
+    q: &Query,
+    store: &Store,
+    files: &mut Files,
+    with: Lent,
+    seed: &mut u64,
+    tally: &mut Tally,
+) {
+    let mut w = with;
+    let pair = below(seed, 64);
+    let bad = queries::is_bad_pair(q, pair);
+    let edge = edge_bit(q, seed);
+    if queries::MAX_PAIRS <= q[queries::PAIRS] {
+        return;
+    }
+    w.query = turn_pair(q, files, pair);
+    let refused = refusal_of(store, files, w, tally) == 26;
+    tally::judge(tally, DAMAGED, refused == bad);
+    flip(files, edge, 1);
+    let given = refusal_of(store, files, w, tally);
+    w.query = sub(w.query, add(1, below(seed, 3)));
+    judge_refusal(store, files, w, 6, tally);
+    turn_pair(q, files, pair);
+    let other = refusal_of(store, files, with, tally);
+    flip(files, edge, 1);
+    let due = if (other == 9) | (other == 10) {
+        other
+    } else {
+        26
+    };
+    tally::judge(tally, DAMAGED, (given == due) | !bad);
 }
 
 // A bit of a day in the store of n vertices turned over gives 19 where the day is then above 65,535, and else not.
@@ -134,6 +183,7 @@ pub fn judge_run(
     w.list = 256;
     judge_lengths(store, files, w, tally);
     judge_range(q, store, files, w, seed, tally);
+    judge_pair(q, store, files, w, seed, tally);
     judge_day(g[graphs::VERTICES], store, files, w, seed, tally);
     judge_bit(store, files, w, below(seed, w.query % PLAN * 8), tally);
     let plan = PLAN * 8 + below(seed, w.plan % PLAN * 8) % 512;

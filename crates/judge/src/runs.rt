@@ -23,10 +23,10 @@ pub const STORE_WORDS: usize = 3840;
 
 pub const LIST_WORDS: usize = MAX_LIST + MARGIN;
 
-pub const FILE_BYTES: usize = 160;
+pub const FILE_BYTES: usize = 168;
 
 // Where the plan's file begins, after the query's.
-pub const PLAN: usize = 96;
+pub const PLAN: usize = 104;
 
 pub type Store = [u32; STORE_WORDS];
 

@@ -47,6 +47,8 @@ pub const ROWS: usize = 38;
 
 pub const DATED: usize = 39;
 
+pub const PAIRED: usize = 40;
+
 // How often the engine gave each refusal.
 const REFUSALS: usize = 64;
 
@@ -105,6 +107,7 @@ fn print_stream(tally: &Tally) {
     print_count(b"graphs ", tally[GRAPHS]);
     print_count(b", queries ", tally[QUERIES]);
     print_count(b", with matches and a range of days ", tally[DATED]);
+    print_count(b", with matches and pairs ", tally[PAIRED]);
     print_count(b", pairs of unlike plans ", tally[UNLIKE]);
     print_count(b", plans with rows ", tally[FILLED]);
     print_count(b", with joined rows ", tally[JOINED]);
@@ -114,7 +117,7 @@ fn print_stream(tally: &Tally) {
 
 fn print_refusals(tally: &Tally) {
     io::write_all(STDOUT_FILENO, b"\nrefusals");
-    for k in 1..26 {
+    for k in 1..27 {
         print_count(b" ", k);
         print_count(b":", tally[REFUSALS + k as usize % 32]);
     }

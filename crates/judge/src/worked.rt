@@ -42,12 +42,12 @@ fn judge_accepted(q: &Query, edges: usize, percent: usize, seed: &mut u64, tally
     judge_over(q, add(places, 1), percent, seed, tally);
 }
 
-// A file with the counts of n vertices and m edges, of the size that they take.
+// A file with the counts of n vertices and m edges, of the size that they take without pairs.
 fn judge_refused(n: usize, m: usize, tally: &mut Tally) {
     let mut file = [0u8; runs::FILE_BYTES];
     bits::put_field(&mut file, 0, 4, n);
     bits::put_field(&mut file, 4, 5, m);
-    let bytes = bits::bytes_for(9 + n % 16 * 48 + m % 32 * 14);
+    let bytes = bits::bytes_for(13 + n % 16 * 48 + m % 32 * 14);
     let refusal = query::read_query(part(&file, 0, bytes)).refusal;
     tally::judge(tally, tally::WORKED, refusal == 8);
 }

@@ -27,6 +27,11 @@ const LISTED: usize = 4;
 // Three bits of this word for each vertex choose its range of days; 0 chooses the whole range.
 pub const RANGES: usize = 5;
 
+// How many pairs there are; bit 8 × low + high of the next word is 1 where the pair is there.
+pub const PAIRS: usize = 6;
+
+const PAIR_BITS: usize = 7;
+
 const NEXT_TO: usize = 8;
 
 const LIST: usize = 16;
@@ -36,6 +41,8 @@ const CELLS: usize = 48;
 const CELL_COUNT: usize = 256;
 
 const MAX_EDGES: usize = 24;
+
+pub const MAX_PAIRS: usize = 15;
 
 // The set of one vertex.
 pub fn only(v: usize) -> usize {
@@ -101,6 +108,24 @@ pub fn last_day(q: &Query, v: usize) -> usize {
     lasts[range(q, v) % 8]
 }
 
+// The item number of `low` must be below that of `high`.
+pub fn has_pair(q: &Query, low: usize, high: usize) -> bool {
+    (q[PAIR_BITS] >> (low % 8 * 8 + high % 8)) % 2 == 1
+}
+
+// A pair, 8 × low + high, that may not follow those that are there: its vertices are equal or unknown, or it does not ascend.
+pub fn is_bad_pair(q: &Query, pair: usize) -> bool {
+    let low = pair / 8 % 8;
+    let high = pair % 8;
+    let unknown = (q[VERTICES] <= low) | (q[VERTICES] <= high);
+    (low == high) | unknown | (q[PAIR_BITS] >> (pair % 64) != 0)
+}
+
+// The bits of a file before its pair count.
+pub fn pairs_at(q: &Query) -> usize {
+    9 + q[VERTICES] % 16 * 48 + q[EDGES] % 32 * 14
+}
+
 // The set of the vertices that an edge joins to v.
 pub fn next_to(q: &Query, v: usize) -> usize {
     q[NEXT_TO + v % 8]
@@ -127,6 +152,15 @@ pub fn put_edge(q: &mut Query, edge: usize) {
     q[EDGES] = add(q[EDGES], 1);
     q[NEXT_TO + s % 8] = next_to(q, s) | only(t);
     q[NEXT_TO + t % 8] = next_to(q, t) | only(s);
+}
+
+// Adds a pair, unless its vertices are equal, or it is there or one too many.
+fn put_pair(q: &mut Query, low: usize, high: usize) {
+    if (low == high) | has_pair(q, low, high) | (MAX_PAIRS <= q[PAIRS]) {
+        return;
+    }
+    q[PAIRS] = add(q[PAIRS], 1);
+    q[PAIR_BITS] = q[PAIR_BITS] | (1usize << (low % 8 * 8 + high % 8));
 }
 
 // The index of a label: that of any, in a fifth, or one of a few.
@@ -180,18 +214,42 @@ fn join_vertex(q: &mut Query, g: &Graph, row: &mut [usize; 8], any: bool, seed: 
     }
 }
 
-// Joins all vertices, by an edge that may be any in every sixteenth step at least; then adds edges, so many in a hundred steps.
-fn join_vertices(q: &mut Query, g: &Graph, any: bool, more: usize, seed: &mut u64) {
+// Joins all vertices, by an edge that may be any in every sixteenth step at least; then adds edges in up to a fifth of the steps.
+fn join_vertices(q: &mut Query, g: &Graph, row: &mut [usize; 8], any: bool, seed: &mut u64) {
     let n = q[VERTICES];
-    let mut row = [graphs::NO_PLACE; 8];
+    let more = below(seed, 20);
     row[0] = below(seed, g[graphs::PLACES]);
     q[JOINED] = 1;
     for i in 0..128usize {
         if q[JOINED] < n {
-            join_vertex(q, g, &mut row, any | (i % 16 == 15), seed);
+            join_vertex(q, g, row, any | (i % 16 == 15), seed);
         } else if chance(seed, more) {
             let edge = random_edge(below(seed, n), below(seed, n), seed);
-            try_edge(q, g, &row, edge, any);
+            try_edge(q, g, row, edge, any);
+        }
+    }
+}
+
+// Adds a pair of two vertices in the order of their places, turned over so many times of a hundred.
+fn draw_pair(q: &mut Query, row: &[usize; 8], turned: usize, seed: &mut u64) {
+    let a = below(seed, q[VERTICES]);
+    let b = below(seed, q[VERTICES]);
+    if (row[a % 8] < row[b % 8]) != chance(seed, turned) {
+        put_pair(q, a, b);
+    } else {
+        put_pair(q, b, a);
+    }
+}
+
+// Pairs in every second query: a few, or in an eighth of these up to the most; in a fourth they may contradict each other.
+fn draw_pairs(q: &mut Query, row: &[usize; 8], seed: &mut u64) {
+    let few = add(1, below(seed, 3));
+    let steps = [few, few, few, few, few, few, few, 48];
+    let count = steps[below(seed, 8) % 8];
+    let turned = if chance(seed, 25) { 50 } else { 0 };
+    if chance(seed, 50) {
+        for _ in 0..count % 64 {
+            draw_pair(q, row, turned, seed);
         }
     }
 }
@@ -228,8 +286,9 @@ pub fn random(q: &mut Query, g: &Graph, seed: &mut u64) {
     start(q, random_vertices(g[graphs::PLACES], any, seed));
     q[LABELS] = random_labels(seed);
     q[RANGES] = random_ranges(q[VERTICES], seed);
-    let more = below(seed, 20);
-    join_vertices(q, g, any, more, seed);
+    let mut row = [graphs::NO_PLACE; 8];
+    join_vertices(q, g, &mut row, any, seed);
+    draw_pairs(q, &row, seed);
 }
 
 // Writes the label of a vertex, and its first and its last day.
@@ -267,10 +326,22 @@ fn write_edges(q: &mut Query, file: &mut [u8], from: usize) -> usize {
     at
 }
 
+// Writes the pairs that are there, 3 bits low and 3 high; others take no bits.
+fn write_pairs(q: &Query, file: &mut [u8], from: usize) -> usize {
+    let mut at = from;
+    for pair in 0..64usize {
+        let width = if has_pair(q, pair / 8, pair) { 6 } else { 0 };
+        at = put_field(file, at, width, pair);
+    }
+    at
+}
+
 // Lists the edges of a query that was just made, writes its file over zeros, and answers the file's length in bytes.
 pub fn write(q: &mut Query, file: &mut [u8]) -> usize {
     let edges = put_field(file, 0, 4, q[VERTICES]);
     let vertices = put_field(file, edges, 5, q[EDGES]);
     let listed = write_vertices(q, file, vertices);
-    bytes_for(write_edges(q, file, listed))
+    let count = write_edges(q, file, listed);
+    let pairs = put_field(file, count, 4, q[PAIRS]);
+    bytes_for(write_pairs(q, file, pairs))
 }

@@ -3,6 +3,7 @@ pub mod Images
 pub mod Structs
 pub mod Masks
 pub mod Touch
+pub mod Pairs
 pub mod Steps
 pub mod FileLaws
 pub mod Limits

@@ -13,7 +13,7 @@ use Rattle.query.specs.File.{vertexCount, edgeCount, queryOf, outsideLim
 use Rattle.query.specs.inner.Parts.{queryFileFault}
 use Rattle.query.proofs.FileLaws.{limits-first, query-first}
 
--- 8 vertices of any label and day, each with an edge of label 1 to the next three around: 24 edges.
+-- 8 vertices of any label and day, each with an edge of label 1 to the next three around: 24 edges; no pair.
 pub largest : List ℕ
 largest = 140 ∷ 0 ∷ 0 ∷ 0 ∷ 0 ∷ 127 ∷ 255 ∷ 128 ∷ 0 ∷ 0 ∷ 0 ∷ 127 ∷ 255 ∷ 128 ∷ 0 ∷ 0 ∷ 0 ∷ 127 ∷ 255 ∷ 128 ∷ 0 ∷ 0 ∷ 0 ∷ 127 ∷ 255 ∷ 128 ∷ 0 ∷ 0 ∷ 0 ∷ 127 ∷ 255 ∷ 128 ∷ 0 ∷ 0 ∷ 0 ∷ 127 ∷ 255 ∷ 128 ∷ 0 ∷ 0 ∷ 0 ∷ 127 ∷ 255 ∷ 128 ∷ 0 ∷ 0 ∷ 0 ∷ 127 ∷ 255 ∷ 130 ∷ 2 ∷ 16 ∷ 8 ∷ 96 ∷ 37 ∷ 0 ∷ 150 ∷ 2 ∷ 96 ∷ 10 ∷ 96 ∷ 42 ∷ 0 ∷ 170 ∷ 2 ∷ 224 ∷ 11 ∷ 160 ∷ 47 ∷ 0 ∷ 202 ∷ 3 ∷ 48 ∷ 12 ∷ 224 ∷ 52 ∷ 0 ∷ 220 ∷ 3 ∷ 120 ∷ 14 ∷ 0 ∷ 56 ∷ 128 ∷ 238 ∷ 3 ∷ 192 ∷ 15 ∷ 32 ∷ 61 ∷ 0 ∷ 128 ∷ []
 

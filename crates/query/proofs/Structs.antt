@@ -16,11 +16,11 @@ use Rattle.lists.proofs.Maps.{map-indices, length-image, getD-image, image-ext}
 use Rattle.packed.specs.Field.{fieldAt}
 use Rattle.packed.proofs.Laws.{field-lt}
 use Rattle.graph.specs.Graph.{Edge, maxDay}
-use Rattle.query.specs.Query.{Query, wanted, firstDay, lastDay, edgeAt}
-use Rattle.query.specs.File.{minVertices, maxVertices, minEdges, maxEdges, vertexCount, edgeCount, labelIn, firstIn, lastIn, edgeStart, edgeIn, queryOf, outsideLimits}
-use Rattle.query.specs.inner.Parts.{vertexField, edgeField}
+use Rattle.query.specs.Query.{Pair, Query, wanted, firstDay, lastDay, edgeAt}
+use Rattle.query.specs.File.{minVertices, maxVertices, minEdges, maxEdges, maxPairs, vertexCount, edgeCount, pairCount, labelIn, firstIn, lastIn, edgeStart, edgeIn, pairStart, pairIn, queryOf, outsideLimits}
+use Rattle.query.specs.inner.Parts.{vertexField, edgeField, pairField}
 use Rattle.query.specs.Answer.{padded, structOf}
-use Rattle.query.specs.inner.Struct.{edgeStruct, asEdge, edgeOf, queryIn, Held, filterOf}
+use Rattle.query.specs.inner.Struct.{edgeStruct, asEdge, edgeOf, pairOf, queryIn, Held, filterOf}
 use Rattle.query.specs.declared.Edge.{Edge as EdgeStruct}
 use Rattle.query.specs.declared.Query.{Query as QueryStruct}
 use Rattle.query.proofs.Images.{getD-padded, take-padded}
@@ -48,6 +48,19 @@ edge-of q i h =
         getD-padded maxEdges (map f (q .edges)) i (rw (length-map (q .edges) f) h)
         ∙ ap (getD (map f (q .edges)) i) (sym z) ∙ List·getD-map f (q .edges) i noEdge
 
+-- So is a pair.
+abbrev pub pairAt : Query → ℕ → Pair
+pairAt q i = getD (q .pairs) i (record { low = 0; high = 0 })
+
+pub pair-of : (q : Query) (i : ℕ) → i < length (q .pairs) → pairOf (structOf q) i ≡ pairAt q i
+unfolding structOf
+pair-of q i h = λ k. record { low = field (λ (p : Pair). p .low) refl k; high = field (λ (p : Pair). p .high) refl k }
+  where
+    field : (f : Pair → ℕ) → f (record { low = 0; high = 0 }) ≡ 0 → getD (padded maxPairs (map f (q .pairs))) i 0 ≡ f (pairAt q i)
+    field f z =
+        getD-padded maxPairs (map f (q .pairs)) i (rw (length-map (q .pairs) f) h)
+        ∙ ap (getD (map f (q .pairs)) i) (sym z) ∙ List·getD-map f (q .pairs) i (record { low = 0; high = 0 })
+
 -- A struct holds the query that it was made of.
 pub in-struct : (q : Query) → length (q .labels) ≡ q .vertices → length (q .firsts) ≡ q .vertices → length (q .lasts) ≡ q .vertices
     → queryIn (structOf q) ≡ q
@@ -59,6 +72,7 @@ in-struct q l f t =
       firsts = taken (q .firsts) f k;
       lasts = taken (q .lasts) t k;
       edges = map-indices (edgeOf (structOf q)) (q .edges) _ (edge-of q) k;
+      pairs = map-indices (pairOf (structOf q)) (q .pairs) _ (pair-of q) k;
     }
   where
     taken : (xs : List ℕ) → length xs ≡ q .vertices → take (q .vertices) (padded maxVertices xs) ≡ xs
@@ -122,8 +136,17 @@ pub file-edge : (s : List ℕ) (i : ℕ) → i < edgeCount s → edgeAt (queryOf
 unfolding queryOf
 file-edge s i h = getD-image (edgeIn s) (edgeCount s) i _ h
 
--- The struct that is read field by field from a file of n vertices and m edges, where edge 0 is at a bit position.
-module _ (s : List ℕ) (n m at : ℕ) (vertices : n ≡ vertexCount s) (edges : m ≡ edgeCount s) (place : at ≡ 9 + 48 * n) where
+-- Its pairs, which a count of 4 bits counts.
+pub file-pair : (s : List ℕ) (i : ℕ) → i < pairCount s → pairAt (queryOf s) i ≡ pairIn s i
+unfolding queryOf
+file-pair s i h = getD-image (pairIn s) (pairCount s) i _ h
+
+pub at-most-pairs : (s : List ℕ) → pairCount s ≤ maxPairs
+at-most-pairs s = omega (arith, field-lt s (edgeStart s (edgeCount s)) 4)
+
+-- The struct that is read field by field from a file of n vertices, m edges and p pairs, where edge 0 and pair 0 are at bit positions.
+module _ (s : List ℕ) (n m p at from : ℕ) (vertices : n ≡ vertexCount s) (edges : m ≡ edgeCount s) (pairs : p ≡ pairCount s)
+    (place : at ≡ 9 + 48 * n) (past : from ≡ at + 14 * m + 4) where
   field-read : (o w : ℕ) (f : Edge → ℕ) → ((i : ℕ) → fieldAt s (edgeStart s i + o) w ≡ f (edgeIn s i))
       → map (edgeField s at o w) (range m) ≡ map f (map (edgeIn s) (range (edgeCount s)))
   field-read o w f h =
@@ -131,16 +154,25 @@ module _ (s : List ℕ) (n m at : ℕ) (vertices : n ≡ vertexCount s) (edges :
       ∙ image-ext (edgeField s at o w) (λ (i : ℕ). f (edgeIn s i)) (edgeCount s) (λ i l. ap (λ (k : ℕ). fieldAt s k w) (omega arith) ∙ h i)
       ∙ sym (map-map f (edgeIn s) (range (edgeCount s)))
 
+  pair-read : (o : ℕ) (f : Pair → ℕ) → ((i : ℕ) → fieldAt s (pairStart s i + o) 3 ≡ f (pairIn s i))
+      → map (pairField s from o) (range p) ≡ map f (map (pairIn s) (range (pairCount s)))
+  pair-read o f h =
+      ap (λ (k : ℕ). map (pairField s from o) (range k)) pairs
+      ∙ image-ext (pairField s from o) (λ (i : ℕ). f (pairIn s i)) (pairCount s) (λ i l. ap (λ (k : ℕ). fieldAt s k 3) (omega arith) ∙ h i)
+      ∙ sym (map-map f (pairIn s) (range (pairCount s)))
+
   vertex-read : (o : ℕ) (f : ℕ → ℕ) → ((w : ℕ) → vertexField s o w ≡ f w) → map (vertexField s o) (range n) ≡ map f (range (vertexCount s))
   vertex-read o f h = ap (λ (k : ℕ). map (vertexField s o) (range k)) vertices ∙ image-ext (vertexField s o) f (vertexCount s) (λ w l. h w)
 
-  pub struct-read : (ls fs us ss ts es : List ℕ) → ls ≡ padded maxVertices (map (vertexField s 0) (range n))
+  pub struct-read : (ls fs us ss ts es xs ys : List ℕ) → ls ≡ padded maxVertices (map (vertexField s 0) (range n))
       → fs ≡ padded maxVertices (map (vertexField s 16) (range n)) → us ≡ padded maxVertices (map (vertexField s 32) (range n))
       → ss ≡ padded maxEdges (map (edgeField s at 0 3) (range m)) → ts ≡ padded maxEdges (map (edgeField s at 3 3) (range m))
       → es ≡ padded maxEdges (map (edgeField s at 6 8) (range m))
-      → record { vertices = n; edges = m; labels = ls; firsts = fs; lasts = us; sources = ss; targets = ts; «edge_labels» = es } ≡ structOf (queryOf s)
+      → xs ≡ padded maxPairs (map (pairField s from 0) (range p)) → ys ≡ padded maxPairs (map (pairField s from 3) (range p))
+      → record { vertices = n; edges = m; labels = ls; firsts = fs; lasts = us; sources = ss; targets = ts; «edge_labels» = es; pairs = p; lows = xs; highs = ys }
+      ≡ structOf (queryOf s)
   unfolding structOf queryOf
-  struct-read ls fs us ss ts es hl hf hu hs ht he =
+  struct-read ls fs us ss ts es xs ys hl hf hu hs ht he hx hy =
       λ k. record {
         vertices = vertices k;
         edges = (edges ∙ sym (length-image (edgeIn s) (edgeCount s))) k;
@@ -150,6 +182,9 @@ module _ (s : List ℕ) (n m at : ℕ) (vertices : n ≡ vertexCount s) (edges :
         sources = (hs ∙ ap (padded maxEdges) (field-read 0 3 (λ (e : Edge). e .source) (λ i. ap (λ (j : ℕ). fieldAt s j 3) (omega arith)))) k;
         targets = (ht ∙ ap (padded maxEdges) (field-read 3 3 (λ (e : Edge). e .target) (λ i. refl))) k;
         «edge_labels» = (he ∙ ap (padded maxEdges) (field-read 6 8 (λ (e : Edge). e .label) (λ i. refl))) k;
+        pairs = (pairs ∙ sym (length-image (pairIn s) (pairCount s))) k;
+        lows = (hx ∙ ap (padded maxPairs) (pair-read 0 (λ (e : Pair). e .low) (λ i. ap (λ (j : ℕ). fieldAt s j 3) (omega arith)))) k;
+        highs = (hy ∙ ap (padded maxPairs) (pair-read 3 (λ (e : Pair). e .high) (λ i. refl))) k;
       }
 
 -- A file within the limits has a query that the code's functions take.
@@ -159,9 +194,15 @@ held s ok =
     record {
       vertices = at-most-vertices s ok;
       edges = rw length-image (at-most-edges s ok);
+      pairs = rw length-image (at-most-pairs s);
       source = λ i h. end i h (λ (e : Edge). e .source) (field-lt s (edgeStart s i) 3);
       target = λ i h. end i h (λ (e : Edge). e .target) (field-lt s (edgeStart s i + 3) 3);
+      low = λ i h. half i h (λ (p : Pair). p .low) (field-lt s (pairStart s i) 3);
+      high = λ i h. half i h (λ (p : Pair). p .high) (field-lt s (pairStart s i + 3) 3);
     }
   where
     end : (i : ℕ) → i < length (queryOf s .edges) → (f : Edge → ℕ) → f (edgeIn s i) < maxVertices → f (edgeOf (structOf (queryOf s)) i) < maxVertices
     end i h f l = rw (edge-of (queryOf s) i h, file-edge s i (rw length-image at h)) l
+
+    half : (i : ℕ) → i < length (queryOf s .pairs) → (f : Pair → ℕ) → f (pairIn s i) < maxVertices → f (pairOf (structOf (queryOf s)) i) < maxVertices
+    half i h f l = rw (pair-of (queryOf s) i h, file-pair s i (rw length-image at h)) l

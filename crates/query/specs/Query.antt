@@ -7,13 +7,19 @@ use lib.ListN.{getD}
 use Rattle.lists.specs.Lists.{range, all, any, keep}
 use Rattle.graph.specs.Graph.{Edge}
 
--- Vertices with a label and a first and a last day each, and edges in the file's order.
+-- A pair of vertices: 'the first's item number must be below the second's'.
+pub record Pair : Type 0 where
+  pub low : ℕ
+  pub high : ℕ
+
+-- Vertices with a label and a first and a last day each, edges and pairs in the file's order.
 pub record Query : Type 0 where
   pub vertices : ℕ
   pub labels : List ℕ
   pub firsts : List ℕ
   pub lasts : List ℕ
   pub edges : List Edge
+  pub pairs : List Pair
 
 -- A query vertex's label; 0 fits every data vertex.
 abbrev pub wanted : Query → ℕ → ℕ
@@ -25,6 +31,10 @@ firstDay q w = getD (q .firsts) w 0
 
 abbrev pub lastDay : Query → ℕ → ℕ
 lastDay q w = getD (q .lasts) w 0
+
+-- The query has the pair of w and u.
+unfoldable pub paired : Query → ℕ → ℕ → Bool
+paired q w u = any (λ (p : Pair). eqb (p .low) w && eqb (p .high) u) (q .pairs)
 
 -- The query edge of an index.
 abbrev pub edgeAt : Query → ℕ → Edge

@@ -1,4 +1,5 @@
-// The query file: n (4 bits), m (5), n vertices of label (16), first day (16), last day (16), then m edges of from (3), to (3), label (8).
+// The query file: n (4 bits), m (5), n vertices of label (16), first day (16), last day (16), then m edges of from (3), to (3), label (8),
+// then a pair count (4) and pairs of low (3), high (3).
 use crate::Query;
 use packed::bytes_for;
 use packed::field;
@@ -9,8 +10,8 @@ ghost use Prim.Native.Nat.{_+_, _*_, _^_, _≤_, _<_};
 ghost use lib.ListN.{length};
 ghost use Rattle.lists.specs.Lists.{range};
 ghost use Rattle.packed.specs.Field.{bitsIn};
-ghost use Rattle.query.specs.File.{maxVertices, maxEdges, vertexCount, edgeCount, vertexStart, edgeStart, key};
-ghost use Rattle.query.specs.inner.Parts.{vertexField, edgeField, limitsFault, sizeFault, edgeFrom, keyFault, queryDaysFault, queryEdgesFault, queryFileFault};
+ghost use Rattle.query.specs.File.{maxVertices, maxEdges, maxPairs, vertexCount, edgeCount, pairCount, vertexStart, edgeStart, pairStart, key, pairKey};
+ghost use Rattle.query.specs.inner.Parts.{vertexField, edgeField, pairField, limitsFault, sizeFault, sizesFault, edgeFrom, pairFrom, keyFault, pairKeyFault, queryDaysFault, queryEdgesFault, queryPairsFault, queryFileFault};
 ghost use Rattle.query.specs.Answer.{padded};
 
 pub fn vertex_count(file: &[u8]) -> usize
@@ -33,6 +34,22 @@ pub fn edge_start(n: usize, i: usize) -> usize
     ensures { λ r. ⌜ r ≡ 9 + 48 * n + 14 * i ⌝ }
 {
     9 + 48 * n + 14 * i
+}
+
+// The bit position of pair i in a file of n vertices and m edges.
+pub fn pair_start(n: usize, m: usize, i: usize) -> usize
+    requires { ⌜ (n ≤ maxVertices) × (m ≤ maxEdges) × (i ≤ maxPairs) ⌝ }
+    ensures { λ r. ⌜ r ≡ 13 + 48 * n + 14 * m + 6 * i ⌝ }
+{
+    13 + 48 * n + 14 * m + 6 * i
+}
+
+// How many pairs follow the edges.
+pub fn pair_count(file: &[u8], n: usize, m: usize) -> usize
+    requires { ⌜ (n ≡ vertexCount (now file)) × (m ≡ edgeCount (now file)) × (n ≤ maxVertices) × (m ≤ maxEdges) × (pairStart (now file) 0 ≤ bitsIn (now file)) ⌝ }
+    ensures { λ r. ⌜ r ≡ pairCount (now (file .entry)) ⌝ }
+{
+    field(file, edge_start(n, m), 4) as usize
 }
 
 // 8 where n or m is outside its limits, else 0.
@@ -70,6 +87,18 @@ fn size_fault(file: &[u8], bits: usize) -> u32
         return 7;
     }
     0
+}
+
+// 6 where the file ends before its pair count does; then the faults of its size.
+fn sizes_fault(file: &[u8], n: usize, m: usize) -> u32
+    requires { ⌜ (n ≡ vertexCount (now file)) × (m ≡ edgeCount (now file)) × (n ≤ maxVertices) × (m ≤ maxEdges) ⌝ }
+    ensures { λ r. ⌜ r ≡ sizesFault (now (file .entry)) ⌝ }
+{
+    if file.len() < bytes_for(pair_start(n, m, 0)) {
+        return 6;
+    }
+    let k = pair_count(file, n, m);
+    size_fault(file, pair_start(n, m, k))
 }
 
 // 25 of the first of the n vertices whose first day is above its last, else 0.
@@ -139,6 +168,56 @@ fn edges_fault(file: &[u8], n: usize, m: usize) -> u32
     0
 }
 
+// (low, high) of the pair at a bit position, as one number: the two fields are adjacent.
+fn pair_key(file: &[u8], at: usize) -> u32
+    requires { ⌜ at + 6 ≤ bitsIn (now file) ⌝ }
+    ensures { λ r. ⌜ r ≡ pairKey (pairFrom (now (file .entry)) at) ⌝ }
+{
+    field(file, at, 6)
+}
+
+// 26 where the pair at a bit position has a vertex not below n, equal vertices or a key below the least that ascends; else 0.
+fn pair_fault(file: &[u8], at: usize, n: usize, least: u32) -> u32
+    requires { ⌜ (at + 6 ≤ bitsIn (now file)) × (at + 6 < 2 ^ 64) ⌝ }
+    ensures { λ r. ⌜ r ≡ pairKeyFault n least (pairFrom (now (file .entry)) at) ⌝ }
+{
+    let low = field(file, at, 3) as usize;
+    let high = field(file, at + 3, 3) as usize;
+    if n <= low {
+        return 26;
+    }
+    if n <= high {
+        return 26;
+    }
+    if low == high {
+        return 26;
+    }
+    if pair_key(file, at) < least {
+        return 26;
+    }
+    0
+}
+
+// 26 of the first pair at fault, else 0. `least` is one more than the last pair's key.
+fn pairs_fault(file: &[u8], n: usize, m: usize) -> u32
+    requires { ⌜ (n ≡ vertexCount (now file)) × (m ≡ edgeCount (now file)) × (n ≤ maxVertices) × (m ≤ maxEdges) × (pairStart (now file) (pairCount (now file)) ≤ bitsIn (now file)) ⌝ }
+    ensures { λ r. ⌜ r ≡ queryPairsFault (now (file .entry)) (pairCount (now (file .entry))) ⌝ }
+{
+    let k = pair_count(file, n, m);
+    let mut least = 0;
+    let mut i = 0;
+    while i < k {
+        let at = pair_start(n, m, i);
+        let fault = pair_fault(file, at, n, least);
+        if fault != 0 {
+            return fault;
+        }
+        least = pair_key(file, at) + 1;
+        i += 1;
+    }
+    0
+}
+
 // The first fault of a query file but 11, or 0.
 pub fn file_fault(file: &[u8]) -> u32
     ensures { λ r. ⌜ r ≡ queryFileFault (now (file .entry)) ⌝ }
@@ -152,7 +231,7 @@ pub fn file_fault(file: &[u8]) -> u32
     if limits != 0 {
         return limits;
     }
-    let size = size_fault(file, edge_start(n, m));
+    let size = sizes_fault(file, n, m);
     if size != 0 {
         return size;
     }
@@ -160,7 +239,11 @@ pub fn file_fault(file: &[u8]) -> u32
     if days != 0 {
         return days;
     }
-    edges_fault(file, n, m)
+    let edges = edges_fault(file, n, m);
+    if edges != 0 {
+        return edges;
+    }
+    pairs_fault(file, n, m)
 }
 
 // One field of each of the n vertices of a file: 16 bits, `offset` bits past the vertex's start; 0 past them.
@@ -192,6 +275,20 @@ pub fn edge_fields(
     let mut i = 0;
     while i < m {
         a[i] = field(file, at + 14 * i + offset, width);
+        i += 1;
+    }
+    a
+}
+
+// One field of each of the k pairs from bit position `at` on: 3 bits, `offset` bits past the pair's start; 0 past them.
+pub fn pair_fields(file: &[u8], at: usize, k: usize, offset: usize) -> [u32; Query::MAX_PAIRS]
+    requires { ⌜ (offset + 3 ≤ 6) × (k ≤ maxPairs) × (at < 2 ^ 32) × (at + 6 * k ≤ bitsIn (now file)) ⌝ }
+    ensures { λ r. ⌜ r ≡ padded maxPairs (map (pairField (now (file .entry)) at offset) (range k)) ⌝ }
+{
+    let mut a = [0u32; Query::MAX_PAIRS];
+    let mut i = 0;
+    while i < k {
+        a[i] = field(file, at + 6 * i + offset, 3);
         i += 1;
     }
     a

@@ -7,7 +7,7 @@ ghost use Prim.Native.Nat.{ℕ, _≤_, _<_};
 ghost use lib.Dec.{eqb};
 ghost use Rattle.lists.specs.Refusal.{refuse};
 ghost use Rattle.graph.specs.Graph.{maxDay};
-ghost use Rattle.query.specs.Query.{edgeAt, among, between, reached, connected};
+ghost use Rattle.query.specs.Query.{edgeAt, paired, among, between, reached, connected};
 ghost use Rattle.query.specs.File.{maxVertices, maxEdges, queryOf, queryFault};
 ghost use Rattle.query.specs.inner.Parts.{Readable};
 ghost use Rattle.query.specs.Answer.{structOf, noQuery, readAnswer};
@@ -31,7 +31,8 @@ pub struct Filter {
     pub any_day: bool,
 }
 
-// n vertices with a label, a first and a last day each, and m edges, field by field; every number past the n-th and the m-th is 0.
+// n vertices with a label, a first and a last day each, m edges, and pairs of vertices of which the low one's data vertex is to be below
+// the high one's, field by field; every number past the last of them is 0.
 pub struct Query {
     pub vertices: usize,
     pub edges: usize,
@@ -41,6 +42,9 @@ pub struct Query {
     pub sources: [u32; Query::MAX_EDGES],
     pub targets: [u32; Query::MAX_EDGES],
     pub edge_labels: [u32; Query::MAX_EDGES],
+    pub pairs: usize,
+    pub lows: [u32; Query::MAX_PAIRS],
+    pub highs: [u32; Query::MAX_PAIRS],
 }
 
 // What Read query answers: a refusal with a query of zeros, or 0 with the query.
@@ -58,6 +62,8 @@ impl Query {
 
     pub const MAX_EDGES: usize = 24;
 
+    pub const MAX_PAIRS: usize = 15;
+
     // The query of zeros.
     pub fn none() -> Self
         ensures { λ r. ⌜ r ≡ structOf noQuery ⌝ }
@@ -71,6 +77,9 @@ impl Query {
             sources: [0; Query::MAX_EDGES],
             targets: [0; Query::MAX_EDGES],
             edge_labels: [0; Query::MAX_EDGES],
+            pairs: 0,
+            lows: [0; Query::MAX_PAIRS],
+            highs: [0; Query::MAX_PAIRS],
         }
     }
 
@@ -88,6 +97,10 @@ impl Query {
         let sources = file::edge_fields(file, at, m, 0, 3);
         let targets = file::edge_fields(file, at, m, 3, 3);
         let edge_labels = file::edge_fields(file, at, m, 6, 8);
+        let k = file::pair_count(file, n, m);
+        let from = at + 14 * m + 4;
+        let lows = file::pair_fields(file, from, k, 0);
+        let highs = file::pair_fields(file, from, k, 3);
         Query {
             vertices: n,
             edges: m,
@@ -97,6 +110,9 @@ impl Query {
             sources,
             targets,
             edge_labels,
+            pairs: k,
+            lows,
+            highs,
         }
     }
 
@@ -136,6 +152,34 @@ impl Query {
         let mut i = 0;
         while i < self.edges {
             found = found | other_end(self.edge(i), v);
+            i += 1;
+        }
+        found
+    }
+
+    // The vertices whose data vertices are to be below that of v.
+    pub fn pair_lows(self, v: usize) -> u32
+        requires { ⌜ Held self × (v < maxVertices) ⌝ }
+        ensures { λ r. ⌜ MaskOf r (λ (w : ℕ). paired (queryIn self) w v) ⌝ }
+    {
+        let mut found = 0;
+        let mut i = 0;
+        while i < self.pairs {
+            found = found | pair_end(self.lows[i], self.highs[i], v);
+            i += 1;
+        }
+        found
+    }
+
+    // The vertices whose data vertices are to be above that of v.
+    pub fn pair_highs(self, v: usize) -> u32
+        requires { ⌜ Held self × (v < maxVertices) ⌝ }
+        ensures { λ r. ⌜ MaskOf r (λ (w : ℕ). paired (queryIn self) v w) ⌝ }
+    {
+        let mut found = 0;
+        let mut i = 0;
+        while i < self.pairs {
+            found = found | pair_end(self.highs[i], self.lows[i], v);
             i += 1;
         }
         found
@@ -209,7 +253,18 @@ fn other_end(e: Edge, v: usize) -> u32
     0
 }
 
-// Read query's refusal: 6, 8, 6, 7, 25, then by edge 9, 10, then 11; or 0.
+// The set of one vertex of a pair, where v is the other; else the empty set.
+fn pair_end(one: u32, other: u32, v: usize) -> u32
+    requires { ⌜ one < 32 ⌝ }
+    ensures { λ r. ⌜ MaskOf r (λ (w : ℕ). eqb one w && eqb other v) ⌝ }
+{
+    if other as usize == v {
+        return set::only(one as usize);
+    }
+    0
+}
+
+// Read query's refusal: 6, 8, 6, 7, 25, then by edge 9, 10, then by pair 26, then 11; or 0.
 pub fn query_fault(file: &[u8]) -> u32
     ensures { λ r. ⌜ r ≡ queryFault (now (file .entry)) ⌝ }
 {

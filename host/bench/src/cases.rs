@@ -39,6 +39,8 @@ impl Case {
             file.put(to.into(), 3);
             file.put(label.into(), 8);
         }
+        // No pairs.
+        file.put(0, 4);
         file.bytes()
     }
 
@@ -84,9 +86,9 @@ impl Case {
 /// A query and a plan that list nothing: one edge, from a vertex of a label that no vertex has.
 pub fn nothing() -> (Vec<u8>, Vec<u8>) {
     let (mut query, mut plan) = (Bits::default(), Bits::default());
-    // Each vertex has a label, and every day.
+    // Each vertex has a label, and every day; there are no pairs.
     let vertices = [(65_535, 16), (0, 16), (65_535, 16), (0, 16), (0, 16), (65_535, 16)];
-    for (value, bits) in [(2, 4), (1, 5)].into_iter().chain(vertices).chain([(0, 3), (1, 3), (1, 8)]) {
+    for (value, bits) in [(2, 4), (1, 5)].into_iter().chain(vertices).chain([(0, 3), (1, 3), (1, 8), (0, 4)]) {
         query.put(value, bits);
     }
     for (value, bits) in [(1, 5), (0, 2), (0, 5)] {

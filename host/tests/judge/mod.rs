@@ -7,6 +7,7 @@ pub mod calls;
 pub mod cases;
 pub mod drawn;
 pub mod graph;
+pub mod hangs;
 pub mod in_words;
 pub mod matcher;
 pub mod plan;

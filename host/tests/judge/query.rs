@@ -11,16 +11,20 @@ pub type Days = (u16, u16);
 /// Every day.
 pub const EVER: Days = (0, 65_535);
 
+/// A pair of vertices: the first's number must be below the second's.
+pub type Pair = (usize, usize);
+
 #[derive(Clone, Debug, PartialEq, Eq)]
 pub struct Query {
     pub labels: Vec<u16>,
     /// One for each label.
     pub days: Vec<Days>,
     pub edges: Vec<QueryEdge>,
+    pub pairs: Vec<Pair>,
 }
 
 impl Query {
-    /// Of every day.
+    /// Of every day, without pairs.
     pub fn new(labels: Vec<u16>, mut edges: Vec<QueryEdge>) -> Query {
         edges.sort();
         edges.dedup();
@@ -29,12 +33,17 @@ impl Query {
 
     /// The same with the edges as they stand, sorted or not.
     pub fn as_given(labels: Vec<u16>, edges: Vec<QueryEdge>) -> Query {
-        Query { days: vec![EVER; labels.len()], labels, edges }
+        Query { days: vec![EVER; labels.len()], labels, edges, pairs: Vec::new() }
     }
 
     pub fn inspected(self, days: &[Days]) -> Query {
         assert_eq!(days.len(), self.vertices());
         Query { days: days.to_vec(), ..self }
+    }
+
+    /// With these pairs, as they stand.
+    pub fn paired(self, pairs: &[Pair]) -> Query {
+        Query { pairs: pairs.to_vec(), ..self }
     }
 
     /// Unlabelled, with edges of label 1.
@@ -59,10 +68,14 @@ impl Query {
         for &(from, to, label) in &self.edges {
             fields.extend([(from as u64, 3), (to as u64, 3), (u64::from(label), 8)]);
         }
+        fields.push((self.pairs.len() as u64, 4));
+        for &(low, high) in &self.pairs {
+            fields.extend([(low as u64, 3), (high as u64, 3)]);
+        }
         pack(fields)
     }
 
-    /// Refusals 6 to 11 and 25, or the query.
+    /// Refusals 6 to 11, 25 and 26, or the query.
     pub fn read(file: &[u8]) -> Result<Query, u32> {
         if file.len() < 2 {
             return Err(6);
@@ -80,6 +93,9 @@ impl Query {
         }
         let mut edge = || Some((reader.field(3)? as usize, reader.field(3)? as usize, reader.field(8)? as u8));
         let edges = (0..m).map(|_| edge()).collect::<Option<Vec<_>>>().ok_or(6u32)?;
+        let count = reader.field(4).ok_or(6u32)?;
+        let mut pair = || Some((reader.field(3)? as usize, reader.field(3)? as usize));
+        let pairs = (0..count).map(|_| pair()).collect::<Option<Vec<_>>>().ok_or(6u32)?;
         if !reader.ends() {
             return Err(7);
         }
@@ -95,7 +111,11 @@ impl Query {
                 return Err(10);
             }
         }
-        let query = Query { labels, days, edges };
+        let known = |&(low, high): &Pair| low < n && high < n && low != high;
+        if !pairs.iter().all(known) || pairs.windows(2).any(|two| two[0] >= two[1]) {
+            return Err(26);
+        }
+        let query = Query { labels, days, edges, pairs };
         if query.connected() {
             Ok(query)
         } else {
@@ -119,8 +139,8 @@ impl Query {
     }
 
     /// A connected query: a tree, and some edges more; labelled or not; seldom with many vertices. Every other one has no edge of
-    /// any label; in the others half the edges are, and some pairs have such an edge and one of a label beside it. One in three
-    /// asks for days, and half its vertices do.
+    /// any label; in the others half the edges are, and some vertices have such an edge and one of a label between them. One in
+    /// three asks for days, and half its vertices do. One in three has pairs, seldom such that contradict each other.
     pub fn random(r: &Random, most: usize) -> Query {
         let n = 2 + r.below(if r.chance(1, 4) { most - 1 } else { 3.min(most - 1) });
         let kinds = if r.chance(1, 2) { 1 } else { 3 };
@@ -149,8 +169,28 @@ impl Query {
         }
         let asked = r.chance(1, 3);
         let days: Vec<Days> = (0..n).map(|_| if asked && r.chance(1, 2) { random_days(r) } else { EVER }).collect();
-        Query::new(labels, edges).inspected(&days)
+        let pairs = if r.chance(1, 3) { random_pairs(r, n) } else { Vec::new() };
+        Query::new(labels, edges).inspected(&days).paired(&pairs)
     }
+}
+
+/// Few pairs of n vertices, seldom up to fifteen; most ascend in one order of the vertices, so that numbers satisfy them.
+pub fn random_pairs(r: &Random, n: usize) -> Vec<Pair> {
+    let mut place: Vec<usize> = (0..n).collect();
+    (1..n).for_each(|v| place.swap(v, r.below(v + 1)));
+    let (count, any) = (1 + r.below(if r.chance(1, 6) { 15 } else { 2 }), r.chance(1, 8));
+    let mut pairs = Vec::new();
+    for _ in 0..count {
+        let (a, b) = (r.below(n), r.below(n));
+        match () {
+            _ if a == b => (),
+            _ if any || place[a] < place[b] => pairs.push((a, b)),
+            _ => pairs.push((b, a)),
+        }
+    }
+    pairs.sort();
+    pairs.dedup();
+    pairs
 }
 
 /// One of the days that random graphs have as an end, or two of them, or any two: the first is not above the last.

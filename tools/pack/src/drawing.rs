@@ -1,10 +1,11 @@
-//! The vertices and edges of a `[graph]` or `[query]` section.
+//! The vertices, edges and pairs of a `[graph]` or `[query]` section.
 
 use std::collections::HashMap;
 use std::iter::repeat;
 use std::ops::RangeInclusive;
 
 use crate::edge::{Edge, Limits, ANY, ANY_LABEL, EDGE_LABELS, VERTEX_LABELS};
+use crate::pair::{Pair, BELOW};
 use crate::text::{Note, Section};
 
 /// A vertex of a graph or of a query: its label, and what is said of its days.
@@ -12,14 +13,20 @@ pub trait Drawn: Copy {
     /// How its days are written.
     const DAYS: &'static str;
 
+    /// What is said of pairs where a line has no known form.
+    const PAIRS: &'static str;
+
     /// The vertex of a label and of the words that stand after it.
     fn new(label: u32, days: &[&str]) -> Result<Self, String>;
 }
 
-/// A section as far as it was read: vertices in the order of their lines, edges in any order.
+/// A section as far as it was read: vertices and pairs in the order of their lines, edges in any
+/// order.
 pub struct Drawing<V> {
     pub vertices: Vec<V>,
     pub edges: Vec<Edge>,
+    /// Each with its line.
+    pub pairs: Vec<(Pair, usize)>,
     names: HashMap<String, u32>,
     /// The line of each edge.
     lines: HashMap<Edge, usize>,
@@ -30,6 +37,7 @@ impl<V: Drawn> Drawing<V> {
         let mut drawing = Drawing {
             vertices: Vec::new(),
             edges: Vec::new(),
+            pairs: Vec::new(),
             names: HashMap::new(),
             lines: HashMap::new(),
         };
@@ -61,6 +69,11 @@ impl<V: Drawn> Drawing<V> {
             [source, arrow, target] if is_arrow(arrow) => {
                 let edge = self.edge(source, arrow, target, limits)?;
                 self.add_edge(line, edge, limits)
+            }
+            [low, BELOW, high] => {
+                let low = self.vertex(low)?;
+                let high = self.vertex(high)?;
+                self.add_pair(line, Pair { low, high }, limits)
             }
             _ => Err(expected::<V>()),
         }
@@ -99,6 +112,24 @@ impl<V: Drawn> Drawing<V> {
         Ok(())
     }
 
+    fn add_pair(&mut self, line: usize, pair: Pair, limits: &Limits) -> Result<(), String> {
+        let most = *limits.pairs.end();
+        if most == 0 {
+            return Err(format!("a pair 'A {BELOW} B' is for query vertices"));
+        }
+        if pair.low == pair.high {
+            return Err("a pair has two different vertices".into());
+        }
+        if let Some((_, first)) = self.pairs.iter().find(|(other, _)| *other == pair) {
+            return Err(format!("the pair stands at line {first} already"));
+        }
+        if self.pairs.len() == most {
+            return Err(format!("more than {most} pairs"));
+        }
+        self.pairs.push((pair, line));
+        Ok(())
+    }
+
     /// The edge that three words name.
     pub fn edge(
         &self,
@@ -133,8 +164,9 @@ impl<V: Drawn> Drawing<V> {
 pub fn expected<V: Drawn>() -> String {
     format!(
         "expected 'vertex NAME' or 'vertices COUNT', with 'label L' and then '{}' after it, or one \
-         of them, or none; or an edge 'A -L-> B' with blanks around the arrow",
-        V::DAYS
+         of them, or none; or an edge 'A -L-> B' with blanks around the arrow{}",
+        V::DAYS,
+        V::PAIRS
     )
 }
 

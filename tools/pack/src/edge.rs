@@ -29,11 +29,12 @@ pub const EDGE_LABELS: RangeInclusive<u32> = 1..=255;
 pub const ANY_LABEL: u32 = 0;
 pub const ANY: &str = "any";
 
-/// How many vertices and edges there may be, whether an edge may join a vertex to itself, and
-/// whether it may have [`ANY_LABEL`].
+/// How many vertices, edges and pairs there may be, whether an edge may join a vertex to itself,
+/// and whether it may have [`ANY_LABEL`].
 pub struct Limits {
     pub vertices: RangeInclusive<usize>,
     pub edges: RangeInclusive<usize>,
+    pub pairs: RangeInclusive<usize>,
     pub loops: bool,
     pub any_label: bool,
 }

@@ -17,6 +17,7 @@ pub struct Vertex {
 
 impl Drawn for Vertex {
     const DAYS: &'static str = "day D";
+    const PAIRS: &'static str = "";
 
     fn new(label: u32, days: &[&str]) -> Result<Self, String> {
         let day = match *days {
@@ -52,6 +53,7 @@ impl Graph {
     pub const LIMITS: Limits = Limits {
         vertices: 0..=65_535,
         edges: 0..=1_048_575,
+        pairs: 0..=0,
         loops: true,
         any_label: false,
     };

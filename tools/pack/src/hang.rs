@@ -55,6 +55,9 @@ impl fmt::Display for Hang {
         if let Some(query) = &self.query {
             writeln!(f, "[query]")?;
             write_drawing(f, &query.vertices, &query.edges)?;
+            for pair in &query.pairs {
+                writeln!(f, "{pair}")?;
+            }
             if let Some(plan) = &self.plan {
                 writeln!(f, "[plan]")?;
                 write_plan(f, query, plan)?;

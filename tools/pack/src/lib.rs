@@ -7,6 +7,7 @@ pub mod drawing;
 pub mod edge;
 pub mod graph;
 pub mod hang;
+pub mod pair;
 pub mod plan;
 pub mod query;
 pub mod rules;

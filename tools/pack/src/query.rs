@@ -1,5 +1,6 @@
 //! The query file: n vertices (4 bits), m edges (5 bits), then n vertices of label (16 bits), first
-//! day (16) and last day (16), then m edges of from (3), to (3), label (8).
+//! day (16) and last day (16), then m edges of from (3), to (3), label (8), then a pair count (4)
+//! and pairs of low (3), high (3).
 
 use std::fmt;
 
@@ -7,6 +8,7 @@ use crate::bits::{BitReader, BitWriter};
 use crate::day::{Day, Days};
 use crate::drawing::{expected, Drawn};
 use crate::edge::{Edge, FileFault, Limits};
+use crate::pair::{first_fault, Pair};
 
 /// What an item has to be: of this label, where 0 fits every one, and last inspected on one of
 /// these days.
@@ -18,6 +20,7 @@ pub struct Vertex {
 
 impl Drawn for Vertex {
     const DAYS: &'static str = "inspected FIRST..LAST";
+    const PAIRS: &'static str = "; or a pair 'A < B'";
 
     fn new(label: u32, days: &[&str]) -> Result<Self, String> {
         let days = match *days {
@@ -45,24 +48,31 @@ impl fmt::Display for Vertex {
 }
 
 /// A pattern. Its vertices are numbered from 0; an edge of label 0 fits every data edge; the edges
-/// ascend by (from, to, label).
+/// ascend by (from, to, label), the pairs by (low, high).
 #[derive(Clone, Debug, PartialEq, Eq)]
 pub struct Query {
     pub vertices: Vec<Vertex>,
     pub edges: Vec<Edge>,
+    pub pairs: Vec<Pair>,
 }
 
 impl Query {
     pub const LIMITS: Limits = Limits {
         vertices: 2..=8,
         edges: 1..=24,
+        pairs: 0..=15,
         loops: false,
         any_label: true,
     };
 
-    pub fn new(vertices: Vec<Vertex>, mut edges: Vec<Edge>) -> Self {
+    pub fn new(vertices: Vec<Vertex>, mut edges: Vec<Edge>, mut pairs: Vec<Pair>) -> Self {
         edges.sort_by_key(key);
-        Query { vertices, edges }
+        pairs.sort();
+        Query {
+            vertices,
+            edges,
+            pairs,
+        }
     }
 
     pub fn to_bytes(&self) -> Vec<u8> {
@@ -78,6 +88,11 @@ impl Query {
             out.put(e.source, 3);
             out.put(e.target, 3);
             out.put(e.label, 8);
+        }
+        out.put(self.pairs.len() as u32, 4);
+        for p in &self.pairs {
+            out.put(p.low, 3);
+            out.put(p.high, 3);
         }
         out.finish()
     }
@@ -95,7 +110,12 @@ impl Query {
         if !Query::LIMITS.edges.contains(&m) {
             return Err(FileFault::new(8, format!("{m} edges")));
         }
-        let (vertices, edges) = read(&mut file, n, m).ok_or_else(too_short)?;
+        let query = read(&mut file, n, m).ok_or_else(too_short)?;
+        let Query {
+            vertices,
+            edges,
+            pairs,
+        } = &query;
         if file.is_long() {
             return Err(FileFault::new(7, "the file is too long"));
         }
@@ -118,7 +138,10 @@ impl Query {
                 return Err(FileFault::new(10, format!("edge {e} does not ascend")));
             }
         }
-        Ok(Query { vertices, edges })
+        match first_fault(pairs, n) {
+            Some(fault) => Err(fault),
+            None => Ok(query),
+        }
     }
 }
 
@@ -127,10 +150,16 @@ fn key(e: &Edge) -> (u32, u32, u32) {
     (e.source, e.target, e.label)
 }
 
-fn read(file: &mut BitReader, n: usize, m: usize) -> Option<(Vec<Vertex>, Vec<Edge>)> {
+fn read(file: &mut BitReader, n: usize, m: usize) -> Option<Query> {
     let vertices = (0..n).map(|_| vertex(file)).collect::<Option<_>>()?;
     let edges = (0..m).map(|_| edge(file)).collect::<Option<_>>()?;
-    Some((vertices, edges))
+    let count = file.take(4)?;
+    let pairs = (0..count).map(|_| pair(file)).collect::<Option<_>>()?;
+    Some(Query {
+        vertices,
+        edges,
+        pairs,
+    })
 }
 
 fn vertex(file: &mut BitReader) -> Option<Vertex> {
@@ -150,4 +179,10 @@ fn edge(file: &mut BitReader) -> Option<Edge> {
         label,
         target,
     })
+}
+
+fn pair(file: &mut BitReader) -> Option<Pair> {
+    let low = file.take(3)?;
+    let high = file.take(3)?;
+    Some(Pair { low, high })
 }

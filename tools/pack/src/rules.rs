@@ -142,7 +142,7 @@ mod tests {
             label: 0,
             days: Days::ALL,
         };
-        Query::new(vec![vertex; n], edges.collect())
+        Query::new(vec![vertex; n], edges.collect(), Vec::new())
     }
 
     fn diamond() -> Query {

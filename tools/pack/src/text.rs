@@ -3,6 +3,7 @@
 use crate::drawing::{number, Drawing};
 use crate::graph::Graph;
 use crate::hang::Hang;
+use crate::pair::{contradiction, Pair};
 use crate::plan::{Operator, Plan};
 use crate::query::{Query, Vertex};
 use crate::rules::{broken_rule, is_connected};
@@ -23,7 +24,8 @@ impl Note {
     }
 }
 
-/// A text that was read, with a warning if the engine will refuse its files all the same.
+/// A text that was read, with a warning if the engine will refuse its files all the same, or can
+/// find nothing.
 #[derive(Debug)]
 pub struct Parsed {
     pub hang: Hang,
@@ -104,15 +106,24 @@ type Pattern = (Option<Query>, Option<Plan>, Option<Note>);
 
 fn read_pattern(query: &Section, plan: Option<&Section>) -> Result<Pattern, Note> {
     let drawing = Drawing::read(query, &Query::LIMITS)?;
-    let parsed = Query::new(drawing.vertices.clone(), drawing.edges.clone());
+    let pairs: Vec<Pair> = drawing.pairs.iter().map(|&(pair, _)| pair).collect();
+    let contradiction = contradiction(&pairs).map(|i| warn_of_pair(drawing.pairs[i]));
+    let parsed = Query::new(drawing.vertices.clone(), drawing.edges.clone(), pairs);
     let read = plan.map(|s| read_plan(s, &drawing, &parsed)).transpose()?;
     let warning = if is_connected(&parsed) {
         plan.zip(read.as_ref())
             .and_then(|(s, plan)| warn_of_plan(s, &parsed, plan))
+            .or(contradiction)
     } else {
         Some(refused(query.line, 11, "the query is not connected"))
     };
     Ok((Some(parsed), read, warning))
+}
+
+/// A contradiction is no fault, and an empty list looks like a sound rig.
+fn warn_of_pair((pair, line): (Pair, usize)) -> Note {
+    let reason = format!("the pairs above contradict {pair}; nothing will match");
+    Note::new(line, reason)
 }
 
 fn warn_of_plan(section: &Section, query: &Query, plan: &Plan) -> Option<Note> {

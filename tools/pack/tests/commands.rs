@@ -99,6 +99,27 @@ fn days_come_back() {
     assert_eq!(told(unpack(&dir, &["."])), says(0, text, ""));
 }
 
+/// Pairs come back in their order; bad ones have a line, and contradicting ones a warning.
+#[test]
+fn pairs_come_back() {
+    let dir = folder("pairs");
+    let text = TEXT.replace("[plan]", "0 < 1\n1 < 0\n[plan]");
+    let warning = "hang.txt:8: warning: the pairs above contradict 1 < 0; nothing will match\n";
+    fs::write(dir.join("hang.txt"), &text).unwrap();
+    assert_eq!(told(pack(&dir, &["hang.txt"])), says(0, "", warning));
+    assert_eq!(told(unpack(&dir, &["."])), says(0, &text, ""));
+    fs::write(dir.join("bad.txt"), text.replace("1 < 0", "1 < 1")).unwrap();
+    let message = "bad.txt:8: a pair has two different vertices\n";
+    assert_eq!(told(pack(&dir, &["bad.txt"])), says(1, "", message));
+    assert_eq!(told(unpack(&dir, &["."])), says(0, &text, ""));
+    // 119 bits, then a count of 4 bits: 2 pairs, of which the last is made one of 1 and 1.
+    let mut query = fs::read(dir.join("q.bin")).unwrap();
+    query[16] |= 0b0000_0010;
+    fs::write(dir.join("q.bin"), query).unwrap();
+    let message = "./q.bin: pair 1 < 1: equal vertices (refusal 26)\n";
+    assert_eq!(told(unpack(&dir, &["."])), says(1, "", message));
+}
+
 #[test]
 fn bad_days_have_a_line_and_change_no_file() {
     let dir = folder("bad_days");

@@ -255,7 +255,7 @@ fn days_of_a_query() {
 fn faulty_days_of_a_query() {
     let expected = "expected 'vertex NAME' or 'vertices COUNT', with 'label L' and then \
                     'inspected FIRST..LAST' after it, or one of them, or none; or an edge \
-                    'A -L-> B' with blanks around the arrow";
+                    'A -L-> B' with blanks around the arrow; or a pair 'A < B'";
     for (words, message) in [
         (
             "inspected 2026-06-30..2025-01-01",

@@ -26,7 +26,7 @@ fn files(example: &Path) -> Files {
 #[test]
 fn examples_round_trip() {
     let examples = examples();
-    assert!(examples.len() >= 6);
+    assert!(examples.len() >= 7);
     for example in examples {
         let packed = parse(&text(&example)).unwrap().hang;
         assert_eq!(packed.to_files(), files(&example), "{example:?}");
@@ -71,6 +71,43 @@ fn the_ranges_of_the_lapsed_motors() {
         })
         .collect();
     assert_eq!(ranges, [(0, 9_312), (1, 9_312), (0, 0), (9_313, 65_535)]);
+}
+
+/// The pairs in the table of the equal slings, each line's in place of those in the text.
+#[test]
+fn the_pairs_of_the_equal_slings() {
+    let examples = examples();
+    let named = |path: &&PathBuf| path.ends_with("equal-slings");
+    let folder = examples.iter().find(named).unwrap();
+    let text = String::from_utf8(text(folder)).unwrap();
+    let readme = fs::read_to_string(folder.join("README.md")).unwrap();
+    let is_pair = |line: &&str| line.contains(" < ");
+    let others: Vec<&str> = text.lines().filter(|line| !is_pair(line)).collect();
+    assert_eq!(text.lines().filter(is_pair).count(), 2);
+    let table = readme
+        .lines()
+        .filter(|line| line.starts_with("| none") || line.starts_with("| `"));
+    let read: Vec<(Vec<(u32, u32)>, bool)> = table
+        .map(|line| {
+            let cell = line.split('|').nth(1).unwrap();
+            let pairs: Vec<&str> = cell.split('`').filter(is_pair).collect();
+            let text = others
+                .join("\n")
+                .replace("[plan]", &(pairs.join("\n") + "\n[plan]"));
+            let parsed = parse(text.as_bytes()).unwrap();
+            let pairs = parsed.hang.query.unwrap().pairs;
+            let warned = parsed.warning.is_some();
+            (pairs.iter().map(|p| (p.low, p.high)).collect(), warned)
+        })
+        .collect();
+    let expected: [(&[(u32, u32)], bool); 4] = [
+        (&[], false),
+        (&[(0, 1)], false),
+        (&[(0, 1), (1, 2)], false),
+        (&[(0, 1), (1, 0)], true),
+    ];
+    let expected = expected.map(|(pairs, warned)| (pairs.to_vec(), warned));
+    assert_eq!(read, expected);
 }
 
 /// A stream of numbers that look random and are the same in every run.

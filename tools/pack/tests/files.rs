@@ -63,8 +63,8 @@ fn graphs() {
 
 #[test]
 fn queries() {
-    // Two vertices and one edge from 0 to 1 of label 1: 119 bits.
-    assert!(query("20 80 00 00 00 7f ff 80 00 00 00 7f ff 82 02").is_ok());
+    // Two vertices, one edge from 0 to 1 of label 1 and no pair: 123 bits.
+    assert!(query("20 80 00 00 00 7f ff 80 00 00 00 7f ff 82 02 00").is_ok());
     assert_eq!(refusal(query("")), 6);
     assert_eq!(refusal(query("20")), 6);
     assert_eq!(refusal(query("10 80")), 8);
@@ -75,49 +75,60 @@ fn queries() {
         refusal(query("20 80 00 00 00 7f ff 80 00 00 00 7f ff 82")),
         6
     );
+    // The pair count has its first bit in the byte that the edge ends in.
     assert_eq!(
-        refusal(query("20 80 00 00 00 7f ff 80 00 00 00 7f ff 82 02 00")),
+        refusal(query("20 80 00 00 00 7f ff 80 00 00 00 7f ff 82 02")),
+        6
+    );
+    assert_eq!(
+        refusal(query("20 80 00 00 00 7f ff 80 00 00 00 7f ff 82 02 00 00")),
         7
     );
     assert_eq!(
-        refusal(query("20 80 00 00 00 7f ff 80 00 00 00 7f ff 82 03")),
+        refusal(query("20 80 00 00 00 7f ff 80 00 00 00 7f ff 82 02 01")),
         7
     );
     assert_eq!(
-        refusal(query("20 80 00 00 00 7f ff 80 00 00 00 7f ff 84 02")),
+        refusal(query("20 80 00 00 00 7f ff 80 00 00 00 7f ff 84 02 00")),
         9
     );
     assert_eq!(
-        refusal(query("20 80 00 00 00 7f ff 80 00 00 00 7f ff a0 02")),
+        refusal(query("20 80 00 00 00 7f ff 80 00 00 00 7f ff a0 02 00")),
         9
     );
     assert_eq!(
-        refusal(query("20 80 00 00 00 7f ff 80 00 00 00 7f ff 80 02")),
+        refusal(query("20 80 00 00 00 7f ff 80 00 00 00 7f ff 80 02 00")),
         9
     );
     // An edge of label 0 is one of any label; its ends are as for the others.
-    assert!(query("20 80 00 00 00 7f ff 80 00 00 00 7f ff 82 00").is_ok());
+    assert!(query("20 80 00 00 00 7f ff 80 00 00 00 7f ff 82 00 00").is_ok());
     assert_eq!(
-        refusal(query("20 80 00 00 00 7f ff 80 00 00 00 7f ff 84 00")),
+        refusal(query("20 80 00 00 00 7f ff 80 00 00 00 7f ff 84 00 00")),
         9
     );
     assert_eq!(
-        refusal(query("20 80 00 00 00 7f ff 80 00 00 00 7f ff 80 00")),
+        refusal(query("20 80 00 00 00 7f ff 80 00 00 00 7f ff 80 00 00")),
         9
     );
     assert_eq!(
-        refusal(query("21 00 00 00 00 7f ff 80 00 00 00 7f ff 82 02 08 08")),
+        refusal(query(
+            "21 00 00 00 00 7f ff 80 00 00 00 7f ff 82 02 08 08 00"
+        )),
         10
     );
     assert_eq!(
-        refusal(query("21 00 00 00 00 7f ff 80 00 00 00 7f ff 82 02 08 00")),
+        refusal(query(
+            "21 00 00 00 00 7f ff 80 00 00 00 7f ff 82 02 08 00 00"
+        )),
         10
     );
     assert_eq!(
-        refusal(query("21 00 00 00 00 7f ff 80 00 00 00 7f ff 82 00 08 00")),
+        refusal(query(
+            "21 00 00 00 00 7f ff 80 00 00 00 7f ff 82 00 08 00 00"
+        )),
         10
     );
-    assert!(query("21 00 00 00 00 7f ff 80 00 00 00 7f ff 82 00 08 08").is_ok());
+    assert!(query("21 00 00 00 00 7f ff 80 00 00 00 7f ff 82 00 08 08 00").is_ok());
 }
 
 /// The graph's own label 0 stays refused, and is not called any label.
@@ -127,9 +138,9 @@ fn label_0() {
     assert_eq!(fault.to_string(), "edge from 0 to 0: label 0 (refusal 3)");
     let fault = graph("0001 00001 00000000 0000000001 0").unwrap_err();
     assert_eq!(fault.to_string(), "edge from 0 to 1: label 0 (refusal 3)");
-    let any = query("20 80 00 00 00 7f ff 80 00 00 00 7f ff 82 00").unwrap();
+    let any = query("20 80 00 00 00 7f ff 80 00 00 00 7f ff 82 00 00").unwrap();
     assert_eq!(any.edges[0].to_string(), "0 -any-> 1");
-    let file = "20 80 00 00 00 7f ff 80 00 00 00 7f ff 82 00";
+    let file = "20 80 00 00 00 7f ff 80 00 00 00 7f ff 82 00 00";
     assert_eq!(any.to_bytes(), bytes(file));
 }
 
@@ -146,6 +157,7 @@ fn inspected(days: [(u32, u32); 2], edge: (u32, u32)) -> Vec<u8> {
     out.put(edge.0, 3);
     out.put(edge.1, 3);
     out.put(1, 8);
+    out.put(0, 4);
     out.finish()
 }
 

@@ -13,7 +13,7 @@ use Rattle.plan.specs.File.{operatorCount, place, operatorFault}
 
 -- A query of n vertices and m edges. The faults of a plan's file look at no more of a query.
 abbrev pub ofSize : ℕ → ℕ → Query
-ofSize n m = record { vertices = n; labels = []; firsts = []; lasts = []; edges = replicate m (record { source = 0; label = 0; target = 0 }) }
+ofSize n m = record { vertices = n; labels = []; firsts = []; lasts = []; edges = replicate m (record { source = 0; label = 0; target = 0 }); pairs = [] }
 
 -- '14 .. an edge or vertex the query lacks', of an operand after a kind, for n vertices and m edges.
 abbrev pub operandFault : ℕ → ℕ → ℕ → ℕ → ℕ

@@ -6,8 +6,8 @@ use lib.Dec.{eqb, ltb}
 use lib.ListN.{getD, take}
 use Rattle.lists.specs.Lists.{range}
 use Rattle.graph.specs.Graph.{Edge, maxDay, maxEdgeLabel}
-use Rattle.query.specs.Query.{Query}
-use Rattle.query.specs.File.{maxVertices, maxEdges}
+use Rattle.query.specs.Query.{Pair, Query}
+use Rattle.query.specs.File.{maxVertices, maxEdges, maxPairs}
 use Rattle.query.specs.declared.Edge.{Edge as EdgeStruct}
 use Rattle.query.specs.declared.Filter.{Filter as FilterStruct}
 use Rattle.query.specs.declared.Query.{Query as QueryStruct}
@@ -28,6 +28,10 @@ edgeOf d i =
       label = getD (d .«edge_labels») i 0;
     }
 
+-- The pair of an index in a struct.
+abbrev pub pairOf : QueryStruct → ℕ → Pair
+pairOf d i = record { low = getD (d .lows) i 0; high = getD (d .highs) i 0 }
+
 -- The query that a struct holds.
 unfoldable pub queryIn : QueryStruct → Query
 queryIn d =
@@ -37,14 +41,18 @@ queryIn d =
       firsts = take (d .vertices) (d .firsts);
       lasts = take (d .vertices) (d .lasts);
       edges = map (edgeOf d) (range (d .edges));
+      pairs = map (pairOf d) (range (d .pairs));
     }
 
 -- What the code asks of a struct: counts that its arrays hold, and ends that are vertices of the largest query.
 pub record Held (d : QueryStruct) : Type 0 where
   pub vertices : d .vertices ≤ maxVertices
   pub edges : d .edges ≤ maxEdges
+  pub pairs : d .pairs ≤ maxPairs
   pub source : (i : ℕ) → i < d .edges → edgeOf d i .source < maxVertices
   pub target : (i : ℕ) → i < d .edges → edgeOf d i .target < maxVertices
+  pub low : (i : ℕ) → i < d .pairs → pairOf d i .low < maxVertices
+  pub high : (i : ℕ) → i < d .pairs → pairOf d i .high < maxVertices
 
 -- A query edge's label is of a byte.
 abbrev pub byteLabel : Edge → Bool

@@ -27,6 +27,7 @@ Without [plan] a plan can be drawn by the engine, from C or Rust.
     vertex c
     a -5-> b
     c -any-> b              # an edge of any label
+    a < c                   # a pair: the item of a has a lower number than that of c
     [plan]                  # of the [query] in the same text
     scan a -5-> b           # a query edge, or its index in ascending order: scan 0
     extend c
@@ -34,7 +35,7 @@ Without [plan] a plan can be drawn by the engine, from C or Rust.
 
 Vertices are numbered from 0 in the order of their lines, and are declared above their edges.
 Edges stand in any order; pack sorts them, a graph's by source, label and target, a query's by
-source, target and label, where any comes before 1.
+source, target and label, where any comes before 1. Pairs too are sorted.
 
 A day is a date, or a number of days since 2000-01-01; day 0 is none, and a vertex without 'day' has
 it. 'inspected' has a first and a last day, both inclusive, and each may be left out; a query vertex
@@ -45,12 +46,13 @@ without it fits every day. Day 0 counts as a number: '..2026-06-30' fits what ha
     days       2000-01-02 to 2179-06-06, or 0 to 65535; first not above last
     edges      graph 0 to 1048575, query 1 to 24; label 1 to 255, in a query also any; none
                twice; in a query none from a vertex to itself
+    pairs      query 0 to 15; of two different vertices, none twice
     operators  1 to 31
 
 A text that breaks these rules is not packed: pack writes FILE:LINE: and the reason, and leaves
 all files as they are. What the engine will refuse although the files are well formed, an
 unconnected query (11) or a plan that breaks the operators' rules (15 to 18), is packed with a
-warning.
+warning; so are pairs that contradict each other, like a < c with c < a: nothing matches them.
 
 Exit status: 0 packed, 1 not packed, 2 bad usage.
 ";

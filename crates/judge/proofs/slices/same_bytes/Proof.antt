@@ -7,5 +7,5 @@ use Rattle.judge.proofs.slices.same_bytes.Tie as tie
 pub same-bytes-spec : {M : Type 1} → statement M
 same-bytes-spec = tie.close (tie.spec
     (λ a b i₀ i. Unit {0})
-    (λ a b i₀ i. 160 - i)
+    (λ a b i₀ i. 168 - i)
     (search needs) (search needs) (search needs) (search needs) (search needs) (search needs) (search needs) (search needs))

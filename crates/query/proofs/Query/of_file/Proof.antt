@@ -1,7 +1,7 @@
 -- `query::Query::of_file` meets its contract: each array has one field of the file's query. Assumes nothing.
 use mathlib.Core.Path.{refl}
 use native.Mathlib.Omega.{arith}
-use Rattle.query.proofs.Structs.{at-most-vertices, at-most-edges, struct-read}
+use Rattle.query.proofs.Structs.{at-most-vertices, at-most-edges, at-most-pairs, struct-read}
 use borrow.Author.Needs.{needs}
 use Rattle.query.proofs.Query.of_file.Statement.{statement}
 use Rattle.query.proofs.Query.of_file.Tie as tie
@@ -64,11 +64,60 @@ edge-fields-requires-3 c κs =
     let m-few = at-most-edges s (c .before .before .before .before .before .before .before .before .pre .limits) in
     omega arith
 
+pair-count-requires : tie.Need-pair-count-requires
+pair-count-requires c κs =
+    let s = c .before .before .before .before .before .before .before .before .before .args .file .now in
+    let few = at-most-vertices s (c .before .before .before .before .before .before .before .before .before .pre .limits) in
+    let m-few = at-most-edges s (c .before .before .before .before .before .before .before .before .before .pre .limits) in
+    let n = c .before .before .before .before .before .before .before in
+    (n .vertex-count .ensures, c .before .before .before .before .before .before .edge-count .ensures, omega arith, omega arith, omega arith)
+
+mul-from : tie.Need-mul-from
+mul-from c =
+    let s = c .before .before .before .before .before .before .before .before .before .before .args .file .now in
+    let few = at-most-vertices s (c .before .before .before .before .before .before .before .before .before .before .pre .limits) in
+    let m-few = at-most-edges s (c .before .before .before .before .before .before .before .before .before .before .pre .limits) in
+    search needs
+
+add-from : tie.Need-add-from
+add-from c =
+    let s = c .before .before .before .before .before .before .before .before .before .before .args .file .now in
+    let few = at-most-vertices s (c .before .before .before .before .before .before .before .before .before .before .pre .limits) in
+    let m-few = at-most-edges s (c .before .before .before .before .before .before .before .before .before .before .pre .limits) in
+    search needs
+
+add-from-2 : tie.Need-add-from-2
+add-from-2 c =
+    let s = c .before .before .before .before .before .before .before .before .before .before .args .file .now in
+    let few = at-most-vertices s (c .before .before .before .before .before .before .before .before .before .before .pre .limits) in
+    let m-few = at-most-edges s (c .before .before .before .before .before .before .before .before .before .before .pre .limits) in
+    search needs
+
+pair-fields-requires : tie.Need-pair-fields-requires
+pair-fields-requires c κs =
+    let s = c .before .before .before .before .before .before .before .before .before .before .args .file .now in
+    let few = at-most-vertices s (c .before .before .before .before .before .before .before .before .before .before .pre .limits) in
+    let m-few = at-most-edges s (c .before .before .before .before .before .before .before .before .before .before .pre .limits) in
+    let p-few = at-most-pairs s in
+    omega arith
+
+pair-fields-requires-2 : tie.Need-pair-fields-requires-2
+pair-fields-requires-2 c κs =
+    let s = c .before .before .before .before .before .before .before .before .before .before .before .args .file .now in
+    let few = at-most-vertices s (c .before .before .before .before .before .before .before .before .before .before .before .pre .limits) in
+    let m-few = at-most-edges s (c .before .before .before .before .before .before .before .before .before .before .before .pre .limits) in
+    let p-few = at-most-pairs s in
+    omega arith
+
 returns : tie.Need-returns
 returns c =
-    struct-read (c .before .before .before .before .before .before .before .before .before .args .file .now) _ _ _ (c .before .before .before .before .before .before .before .vertex-count .ensures) (c .before .before .before .before .before .before .edge-count .ensures) refl
-    _ _ _ _ _ _ (c .before .before .before .before .before .vertex-fields .ensures) (c .before .before .before .before .vertex-fields2 .ensures) (c .before .before .before .vertex-fields3 .ensures)
-    (c .before .before .edge-fields .ensures) (c .before .edge-fields2 .ensures) (c .edge-fields3 .ensures)
+    let p = c .before .before in
+    let e = p .before in
+    let v = e .before .before .before in
+    let n = v .before .before .before .before in
+    struct-read (n .before .before .args .file .now) _ _ _ _ _ (n .vertex-count .ensures) (v .before .before .before .edge-count .ensures) (p .pair-count .ensures) refl refl
+    _ _ _ _ _ _ _ _ (v .before .before .vertex-fields .ensures) (v .before .vertex-fields2 .ensures) (v .vertex-fields3 .ensures)
+    (e .before .before .edge-fields .ensures) (e .before .edge-fields2 .ensures) (e .edge-fields3 .ensures) (c .before .pair-fields .ensures) (c .pair-fields2 .ensures)
 
 pub of-file-spec : {M : Type 1} → statement M
 of-file-spec =
@@ -84,4 +133,10 @@ of-file-spec =
     edge-fields-requires
     edge-fields-requires-2
     edge-fields-requires-3
+    pair-count-requires
+    mul-from
+    add-from
+    add-from-2
+    pair-fields-requires
+    pair-fields-requires-2
     returns)

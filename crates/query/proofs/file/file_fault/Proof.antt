@@ -6,10 +6,10 @@ use native.Mathlib.Omega.{arith}
 use Rattle.lists.specs.Refusal.{refuse}
 use Rattle.lists.proofs.Faults.{refuse-zero}
 use Rattle.packed.specs.Field.{bitsIn}
-use Rattle.query.specs.File.{vertexCount, edgeCount, edgeStart, outsideLimits}
-use Rattle.query.specs.inner.Parts.{limitsFault, sizeFault, queryDaysFault, queryEdgesFault}
+use Rattle.query.specs.File.{vertexCount, edgeCount, pairCount, pairStart, outsideLimits}
+use Rattle.query.specs.inner.Parts.{limitsFault, sizesFault, queryDaysFault, queryEdgesFault}
 use Rattle.query.proofs.Structs.{at-most-vertices, at-most-edges}
-use Rattle.query.proofs.FileLaws.{short-first, limits-first, size-first, days-first, edges-last, size-bits}
+use Rattle.query.proofs.FileLaws.{short-first, limits-first, size-first, days-first, edges-first, pairs-last, sizes-bits}
 use borrow.Author.Needs.{needs}
 use Rattle.query.proofs.file.file_fault.Statement.{statement}
 use Rattle.query.proofs.file.file_fault.Tie as tie
@@ -20,14 +20,6 @@ limits c = c .limits-fault .ensures ∙ ap₂ limitsFault (c .before .before .ve
 
 within : (c : tie.Else2) → outsideLimits (c .before .before .before .before .before .before .args .file .now) ≡ false
 within c = refuse-zero 7 _ (sym (limits (c .before)) ∙ c .if2 .left)
-
--- The number of `size_fault` is the definition's 6 or 7.
-size : (c : tie.After-size-fault)
-    → let s = c .before .before .before .before .before .before .before .before .args .file .now in c .size-fault .result ≡ sizeFault s (edgeStart s (edgeCount s))
-size c =
-    let s = c .before .before .before .before .before .before .before .before .args .file .now in
-    let bits : c .before .edge-start .result ≡ edgeStart s (edgeCount s) = omega arith in
-    c .size-fault .ensures ∙ ap (sizeFault s) bits
 
 returns : tie.Need-returns
 returns c = sym (short-first (c .before .before .args .file .now) (c .if1 .taken))
@@ -46,65 +38,94 @@ returns-2 c =
     limits (c .before)
     ∙ sym (limits-first (c .before .before .before .before .before .before .args .file .now) (search needs) (λ z. c .if2 .taken (limits (c .before) ∙ z)))
 
-edge-start-requires : tie.Need-edge-start-requires
-edge-start-requires c κs =
-    let s = c .before .before .before .before .before .before .args .file .now in
-    (omega (arith, at-most-vertices s (within c)), omega (arith, at-most-edges s (within c)))
-
-size-fault-requires : tie.Need-size-fault-requires
-size-fault-requires c κs =
-    let s = c .before .before .before .before .before .before .before .args .file .now in
-    omega (arith, at-most-vertices s (within (c .before)), at-most-edges s (within (c .before)))
+sizes-fault-requires : tie.Need-sizes-fault-requires
+sizes-fault-requires c κs =
+    let s = c .before .before .before .before .before .before .args .file .now in (
+      c .before .before .before .vertex-count .ensures,
+      c .before .before .edge-count .ensures,
+      omega (arith, at-most-vertices s (within c)),
+      omega (arith, at-most-edges s (within c)),
+    )
 
 returns-3 : tie.Need-returns-3
 returns-3 c =
-    let s = c .before .before .before .before .before .before .before .before .before .args .file .now in
-    size (c .before)
-    ∙ sym (size-first s (search needs) (within (c .before .before .before)) (λ z. c .if3 .taken (size (c .before) ∙ z)))
+    let s = c .before .before .before .before .before .before .before .before .args .file .now in
+    let size = c .before .sizes-fault .ensures in
+    size ∙ sym (size-first s (search needs) (within (c .before .before)) (λ z. c .if3 .taken (size ∙ z)))
 
--- The file has the bits that its counts ask for.
+-- No fault of the size: the file has the bits that its counts ask for.
+sized : (c : tie.Else3) → sizesFault (c .before .before .before .before .before .before .before .before .args .file .now) ≡ 0
+sized c = sym (c .before .sizes-fault .ensures) ∙ c .if3 .left
+
 bits : (c : tie.Else3)
-    → let s = c .before .before .before .before .before .before .before .before .before .args .file .now in edgeStart s (edgeCount s) ≤ bitsIn s
-bits c =
-    let s = c .before .before .before .before .before .before .before .before .before .args .file .now in
-    size-bits s (edgeStart s (edgeCount s)) (sym (size (c .before)) ∙ c .if3 .left)
+    → let s = c .before .before .before .before .before .before .before .before .args .file .now in
+    pairStart s (pairCount s) ≤ bitsIn s
+bits c = sizes-bits (c .before .before .before .before .before .before .before .before .args .file .now) (sized c)
 
 days-fault-requires : tie.Need-days-fault-requires
 days-fault-requires c κs =
-    let s = c .before .before .before .before .before .before .before .before .before .args .file .now in
+    let s = c .before .before .before .before .before .before .before .before .args .file .now in
     let have = bits c in
-    (omega (arith, at-most-vertices s (within (c .before .before .before))), omega arith)
+    (omega (arith, at-most-vertices s (within (c .before .before))), omega arith)
 
 -- The number of `days_fault` is the definition's 25.
 days : (c : tie.After-days-fault)
-    → let s = c .before .before .before .before .before .before .before .before .before .before .args .file .now in
+    → let s = c .before .before .before .before .before .before .before .before .before .args .file .now in
     c .days-fault .result ≡ queryDaysFault s (vertexCount s)
 days c =
-    let s = c .before .before .before .before .before .before .before .before .before .before .args .file .now in
-    c .days-fault .ensures ∙ ap (queryDaysFault s) (c .before .before .before .before .before .before .before .vertex-count .ensures)
+    let s = c .before .before .before .before .before .before .before .before .before .args .file .now in
+    c .days-fault .ensures ∙ ap (queryDaysFault s) (c .before .before .before .before .before .before .vertex-count .ensures)
 
 returns-4 : tie.Need-returns-4
 returns-4 c =
-    let s = c .before .before .before .before .before .before .before .before .before .before .before .args .file .now in
+    let s = c .before .before .before .before .before .before .before .before .before .before .args .file .now in
     days (c .before)
-    ∙ sym
-    (days-first s (search needs) (within (c .before .before .before .before .before)) (sym (size (c .before .before .before)) ∙ c .before .before .if3 .left)
-    (λ z. c .if4 .taken (days (c .before) ∙ z)))
+    ∙ sym (days-first s (search needs) (within (c .before .before .before .before)) (sized (c .before .before)) (λ z. c .if4 .taken (days (c .before) ∙ z)))
+
+dated : (c : tie.Else4)
+    → let s = c .before .before .before .before .before .before .before .before .before .before .args .file .now in
+    queryDaysFault s (vertexCount s) ≡ 0
+dated c = sym (days (c .before)) ∙ c .if4 .left
 
 edges-fault-requires : tie.Need-edges-fault-requires
 edges-fault-requires c κs =
-    let s = c .before .before .before .before .before .before .before .before .before .before .before .args .file .now in
-    let in-limits = within (c .before .before .before .before .before) in
+    let s = c .before .before .before .before .before .before .before .before .before .before .args .file .now in
+    let in-limits = within (c .before .before .before .before) in
     let have = bits (c .before .before) in
-    (c .before .before .before .before .before .before .before .before .vertex-count .ensures, omega (arith, at-most-vertices s in-limits), omega (arith, at-most-edges s in-limits), omega arith)
+    (c .before .before .before .before .before .before .before .vertex-count .ensures, omega (arith, at-most-vertices s in-limits), omega (arith, at-most-edges s in-limits), omega arith)
+
+-- The number of `edges_fault` is the definition's 9 or 10.
+edges : (c : tie.After-edges-fault)
+    → let s = c .before .before .before .before .before .before .before .before .before .before .before .args .file .now in
+    c .edges-fault .result ≡ queryEdgesFault s (edgeCount s)
+edges c =
+    let s = c .before .before .before .before .before .before .before .before .before .before .before .args .file .now in
+    c .edges-fault .ensures ∙ ap (queryEdgesFault s) (c .before .before .before .before .before .before .before .edge-count .ensures)
 
 returns-5 : tie.Need-returns-5
 returns-5 c =
     let s = c .before .before .before .before .before .before .before .before .before .before .before .before .args .file .now in
-    c .edges-fault .ensures ∙ ap (queryEdgesFault s) (c .before .before .before .before .before .before .before .before .edge-count .ensures)
+    edges (c .before)
+    ∙ sym (edges-first s (search needs) (within (c .before .before .before .before .before .before)) (sized (c .before .before .before .before)) (dated (c .before .before)) (λ z. c .if5 .taken (edges (c .before) ∙ z)))
+
+pairs-fault-requires : tie.Need-pairs-fault-requires
+pairs-fault-requires c κs =
+    let s = c .before .before .before .before .before .before .before .before .before .before .before .before .args .file .now in
+    let in-limits = within (c .before .before .before .before .before .before) in (
+      c .before .before .before .before .before .before .before .before .before .vertex-count .ensures,
+      c .before .before .before .before .before .before .before .before .edge-count .ensures,
+      omega (arith, at-most-vertices s in-limits),
+      omega (arith, at-most-edges s in-limits),
+      bits (c .before .before .before .before),
+    )
+
+returns-6 : tie.Need-returns-6
+returns-6 c =
+    let s = c .before .before .before .before .before .before .before .before .before .before .before .before .before .args .file .now in
+    c .pairs-fault .ensures
     ∙ sym
-    (edges-last s (search needs) (within (c .before .before .before .before .before .before)) (sym (size (c .before .before .before .before)) ∙ c .before .before .before .if3 .left)
-    (sym (days (c .before .before)) ∙ c .before .if4 .left))
+    (pairs-last s (search needs) (within (c .before .before .before .before .before .before .before)) (sized (c .before .before .before .before .before)) (dated (c .before .before .before))
+    (sym (edges (c .before .before)) ∙ c .before .if5 .left))
 
 pub file-fault-spec : {M : Type 1} → statement M
 file-fault-spec =
@@ -115,10 +136,11 @@ file-fault-spec =
     edge-count-requires
     limits-fault-requires
     returns-2
-    edge-start-requires
-    size-fault-requires
+    sizes-fault-requires
     returns-3
     days-fault-requires
     returns-4
     edges-fault-requires
-    returns-5)
+    returns-5
+    pairs-fault-requires
+    returns-6)
