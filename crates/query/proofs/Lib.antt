@@ -4,5 +4,6 @@ pub mod Structs
 pub mod Masks
 pub mod Touch
 pub mod Steps
+pub mod Connected
 pub mod FileLaws
 pub mod Limits
