@@ -56,7 +56,8 @@ enum trace_refusal {
     TRACE_SCRATCH_SMALL = 20,       /* the run needs more scratch */
     TRACE_LIST_SMALL = 21,          /* the rows do not fit the match list */
     TRACE_RECORDS_SHORT = 22,       /* the list of records is shorter than the plan's operators */
-    TRACE_PLAN_STUCK = 23,          /* no uncovered query vertex has an edge to the covered ones */
+    /* 23 was given where a drawn plan had no next vertex. A query that is read is connected and always has one, so no operation
+       gives 23, and the number is not used again. */
     TRACE_PLAN_BYTES = 24           /* the drawn plan's bytes do not fit */
 };
 
@@ -81,7 +82,7 @@ uint32_t trace_check_plan(const uint8_t *query, size_t query_len,
                           uint64_t *operators);
 
 /* Draws a plan for a query over a store, of one scan and n - 2 extends, and gives its length in bytes: at most 6. Refusals 6 to 11,
- * 19, 23 and 24.
+ * 19 and 24.
  *
  * The scan is of the query edge whose label has the fewest edges in the store (label 0 has them all), then the lowest index;
  * each extend is by the uncovered vertex with the most query edges to the covered ones, then the lowest number. The first bytes

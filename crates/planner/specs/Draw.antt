@@ -29,8 +29,8 @@ planBits i vs = scanBits (1 + length vs) i ++ flatMap extendBits vs
 unfoldable pub drawnPlan : Graph → Query → List ℕ
 drawnPlan g q = bytesOf (planBits (scanEdge g q) (extendOrder g q))
 
--- 'It refuses, after the query's refusals and 19, .. with 24 when the plan's bytes do not fit.' An extend that is due has its vertex: what 23
--- was for, no query that was read can show (`query/specs/Connected.antt`).
+-- 'It refuses, after the query's refusals and 19, .. with 24 when the plan's bytes do not fit.' An extend that is due always finds a vertex
+-- (`SomeBeside`), so nothing gives 23.
 unfoldable pub drawFault : List ℕ → List ℕ → ℕ → ℕ
 drawFault store query room =
     let g = graphIn store in
