@@ -48,14 +48,13 @@ refusals! {
     ScratchSmall = 20, "the run needs more scratch";
     ListSmall = 21, "the rows do not fit the match list";
     RecordsShort = 22, "the list of records is shorter than the plan's operators";
-    PlanStuck = 23, "no uncovered query vertex has an edge to the covered ones";
     PlanBytes = 24, "the bytes of the drawn plan do not fit";
     QueryDays = 25, "a vertex of the query has a first day above its last";
     QueryPair = 26, "a pair of the query has equal or unknown vertices, or the pairs do not ascend strictly";
 }
 
 impl Refusal {
-    /// Its number, 1 to 26.
+    /// Its number, 1 to 26; none has 23, which is not used again.
     pub fn number(self) -> u32 {
         self as u32
     }
@@ -79,11 +78,12 @@ mod tests {
     use super::Refusal;
 
     #[test]
-    fn numbers_are_1_to_26_in_order() {
+    fn numbers_are_1_to_26_in_order_without_23() {
         let numbers: Vec<u32> = Refusal::ALL.iter().map(|r| r.number()).collect();
-        assert_eq!(numbers, (1..=26).collect::<Vec<_>>());
+        assert_eq!(numbers, (1..=22).chain(24..=26).collect::<Vec<_>>());
         assert_eq!(Refusal::from_number(20), Some(Refusal::ScratchSmall));
         assert_eq!(Refusal::from_number(0), None);
+        assert_eq!(Refusal::from_number(23), None);
         assert_eq!(Refusal::from_number(27), None);
     }
 }

@@ -58,7 +58,8 @@ enum trace_refusal {
     TRACE_SCRATCH_SMALL = 20,       /* the run needs more scratch */
     TRACE_LIST_SMALL = 21,          /* the rows do not fit the match list */
     TRACE_RECORDS_SHORT = 22,       /* the list of records is shorter than the plan's operators */
-    TRACE_PLAN_STUCK = 23,          /* no uncovered query vertex has an edge to the covered ones */
+    /* 23 was given where a drawn plan had no next vertex. A query that is read is connected and always has one, so no operation
+       gives 23, and the number is not used again. */
     TRACE_PLAN_BYTES = 24,          /* the drawn plan's bytes do not fit */
     TRACE_QUERY_DAYS = 25,          /* a vertex has a first day above its last: after 6 to 8, before 9 */
     TRACE_QUERY_PAIR = 26           /* a pair has equal vertices or one not below n, or the pairs do not ascend strictly: after 9
@@ -86,7 +87,7 @@ uint32_t trace_check_plan(const uint8_t *query, size_t query_len,
                           uint64_t *operators);
 
 /* Draws a plan for a query over a store, of one scan and n - 2 extends, and gives its length in bytes: at most 6. Refusals 6 to 11,
- * 19 and 23 to 26.
+ * 19 and 24 to 26.
  *
  * The scan is of the query edge whose label has the fewest edges in the store (label 0 has them all), then the lowest index;
  * each extend is by the uncovered vertex with the most query edges to the covered ones, then the lowest number. The first bytes

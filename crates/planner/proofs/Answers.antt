@@ -1,21 +1,20 @@
 -- What is answered and left, refused or drawn, is what the definitions say. Assumes nothing.
 use mathlib.Core.Path.{_≡_, refl, sym, _∙_, ap}
-use mathlib.Core.Bool.{Bool, cond}
-use mathlib.Core.List.{List, [], _∷_, _++_}
-use Prim.Native.Nat.{ℕ, _-_, _≤_, _<_}
+use mathlib.Core.Bool.{cond}
+use mathlib.Core.List.{List, _++_}
+use Prim.Native.Nat.{ℕ, _≤_, _<_}
 use lib.Dec.{eqb}
 use lib.ListN.{length, drop}
-use borrow.Author.Tests.{eqb-false, ne-eqb, lt-ltb, le-ltb}
-use Rattle.lists.specs.Refusal.{refuse, first, answered}
-use Rattle.lists.proofs.Faults.{first-cons, first-nil, first-some, zero-refuse}
+use borrow.Author.Tests.{ne-eqb, lt-ltb, le-ltb}
+use Rattle.lists.specs.Refusal.{refuse, answered}
+use Rattle.lists.proofs.Faults.{first-cons, first-some, first-one, zero-refuse}
 use Rattle.graph.specs.Graph.{Graph}
 use Rattle.graph.specs.Store.{graphIn, storeFault}
 use Rattle.query.specs.Query.{Query}
 use Rattle.query.specs.File.{queryOf, queryFault}
-use Rattle.planner.specs.Order.{scanned, stuck}
 use Rattle.planner.specs.Draw.{drawnPlan, drawFault, drawAnswer, drawBytes}
 use Rattle.planner.specs.Complete.{PassesCheck}
-use Rattle.planner.specs.inner.Parts.{lateFaults, Drawn}
+use Rattle.planner.specs.inner.Parts.{Drawn}
 use Rattle.planner.specs.declared.DrawAnswer.{DrawAnswer}
 use Rattle.planner.proofs.Drawing.{passes-check}
 
@@ -25,27 +24,14 @@ refusedWith k = record { refusal = k; bytes = 0 }
 -- ---- of an accepted graph and query
 
 module _ (g : Graph) (q : Query) (before : List ℕ) where
-  late : (k : ℕ) → first (lateFaults g q (length before)) ≡ k → (k ≡ 0 → ⊥) → Drawn g q before before (refusedWith k)
-  late k e bad =
+  pub drawn-short : length before < length (drawnPlan g q) → Drawn g q before before (refusedWith 24)
+  drawn-short short = record { refusal = sym (ap (refuse 24) (lt-ltb (length before) (length (drawnPlan g q)) short)); bytes = refl; left = refl }
+
+  pub drawn-whole : (after : List ℕ) (n : ℕ) → length (drawnPlan g q) ≤ length before → n ≡ length (drawnPlan g q)
+      → after ≡ drawnPlan g q ++ drop (length (drawnPlan g q)) before → Drawn g q before after (record { refusal = 0; bytes = n })
+  drawn-whole after n room e left =
       record {
-        refusal = sym e;
-        bytes = sym (ap (λ (b : Bool). cond b (length (drawnPlan g q)) 0) (ne-eqb k 0 bad));
-        left = sym (ap (λ (b : Bool). cond b (drawnPlan g q ++ drop (length (drawnPlan g q)) before) before) (ne-eqb k 0 bad));
-      }
-
-  pub drawn-stuck : (k : ℕ) → k ≡ refuse 23 (stuck q (scanned g q) (q .vertices - 2)) → (k ≡ 0 → ⊥) → Drawn g q before before (refusedWith k)
-  drawn-stuck k e bad = late k (first-some _ _ (λ z. bad (e ∙ z)) ∙ sym e) bad
-
-  pub drawn-short : refuse 23 (stuck q (scanned g q) (q .vertices - 2)) ≡ 0 → length before < length (drawnPlan g q) → Drawn g q before before (refusedWith 24)
-  drawn-short free short =
-      late 24 (first-cons _ _ free ∙ ap (λ (b : Bool). first (refuse 24 b ∷ [])) (lt-ltb (length before) (length (drawnPlan g q)) short) ∙ first-some 24 [] (λ z. eqb-false 24 0 refl z))
-      (λ z. eqb-false 24 0 refl z)
-
-  pub drawn-whole : (after : List ℕ) (n : ℕ) → refuse 23 (stuck q (scanned g q) (q .vertices - 2)) ≡ 0 → length (drawnPlan g q) ≤ length before
-      → n ≡ length (drawnPlan g q) → after ≡ drawnPlan g q ++ drop (length (drawnPlan g q)) before → Drawn g q before after (record { refusal = 0; bytes = n })
-  drawn-whole after n free room e left =
-      record {
-        refusal = sym (first-cons _ _ free ∙ first-cons _ _ (zero-refuse 24 _ (le-ltb (length before) (length (drawnPlan g q)) room)) ∙ first-nil);
+        refusal = sym (zero-refuse 24 _ (le-ltb (length before) (length (drawnPlan g q)) room));
         bytes = e;
         left = left;
       }
@@ -81,4 +67,4 @@ module _ (store query bytes : List ℕ) where
         (d .left ∙ ap (λ (k : ℕ). cond (eqb k 0) (drawnPlan (graphIn store) (queryOf query) ++ drop (length (drawnPlan (graphIn store) (queryOf query))) bytes) bytes) same)
       where
         same : r .refusal ≡ drawFault store query (length bytes)
-        same = d .refusal ∙ sym (first-cons _ _ read ∙ first-cons _ _ good)
+        same = d .refusal ∙ sym (first-cons _ _ read ∙ first-cons _ _ good ∙ first-one _)

@@ -1,6 +1,6 @@
 -- What is drawn passes the plan check, and so its run lists every match. Assumes nothing.
 use mathlib.Core.Path.{_≡_, refl, sym, _∙_, ap, ap₂, subst}
-use mathlib.Core.Bool.{Bool, true, false}
+use mathlib.Core.Bool.{Bool, true}
 use mathlib.Core.List.{List, [], _++_}
 use Prim.Native.Nat.{ℕ, _+_, _-_, _*_, _≤_, _<_}
 use native.Mathlib.Omega.{arith}
@@ -10,19 +10,19 @@ use lib.Seq.{take-append-seam}
 use borrow.Author.Tests.{ltb-true, lt-ltb, eq-eqb}
 use Rattle.lists.specs.Lists.{range, all, count}
 use Rattle.lists.proofs.All.{all-follows, all-getD}
-use Rattle.lists.proofs.Faults.{first-head, first-tail, first-cons, first-nil, refuse-zero}
+use Rattle.lists.proofs.Faults.{first-head, first-cons, first-nil}
 use Rattle.packed.specs.Field.{bytesFor}
 use Rattle.packed.specs.Encode.{bytesOf}
 use Rattle.graph.specs.Graph.{Graph}
 use Rattle.graph.specs.File.{graphOf}
 use Rattle.graph.specs.Store.{graphIn}
-use Rattle.query.specs.Query.{Query, edgeAt}
+use Rattle.query.specs.Query.{Query, edgeAt, connected}
 use Rattle.query.specs.File.{queryOf, queryFault}
 use Rattle.query.specs.Answer.{structOf}
 use Rattle.query.specs.inner.Struct.{queryIn}
 use Rattle.query.specs.declared.Query.{Query as QueryStruct}
 use Rattle.query.proofs.Structs.{at-least-vertices, at-most-vertices, at-least-edges, at-most-edges, file-struct, file-labels}
-use Rattle.query.proofs.FileLaws.{query-readable, query-held}
+use Rattle.query.proofs.FileLaws.{query-readable, query-held, query-connected}
 use Rattle.plan.specs.Plan.{Operator, ends}
 use Rattle.plan.specs.Check.{ruleFault, covered, rulesFault}
 use Rattle.plan.specs.File.{operatorsOf, checkFault}
@@ -35,7 +35,7 @@ use Rattle.execution.specs.Run.{runAnswer, runList, runRecords}
 use Rattle.execution.specs.Complete.{CompleteRun}
 use Rattle.execution.proofs.Accepted.{edges-proper}
 use Rattle.execution.proofs.Demand.{spelled, run-lists-every-match}
-use Rattle.planner.specs.Order.{scanEdge, scanned, extendsFrom, extendOrder, drawnOperators, stuck}
+use Rattle.planner.specs.Order.{scanEdge, scanned, extendsFrom, extendOrder, drawnOperators}
 use Rattle.planner.specs.Draw.{planBits, drawnPlan, drawFault, drawAnswer, drawBytes}
 use Rattle.planner.specs.inner.Parts.{Drawable}
 use Rattle.planner.specs.Complete.{planIn, PassesCheck, DrawnListsEveryMatch}
@@ -132,7 +132,7 @@ module _ (g : Graph) (q : Query) (sized : Sized q) where
       file-sound (scanEdge g q) (extendOrder g q) (omega (arith, scan-below, sized .few-edges)) (omega (arith, length-order, sized .at-most)) order-low q
       scan-below order-below
 
-  module _ (ok : all (proper (q .vertices)) (q .edges) ≡ true) (free : stuck q (scanned g q) (q .vertices - 2) ≡ false) where
+  module _ (ok : all (proper (q .vertices)) (q .edges) ≡ true) (whole : connected q ≡ true) where
     -- The scan covers two vertices.
     scan-two : count (scanned g q) (range (q .vertices)) ≡ 2
     scan-two =
@@ -144,7 +144,7 @@ module _ (g : Graph) (q : Query) (sized : Sized q) where
     unfolding rulesFault ruleFault covered
     drawn-rules =
         first-cons _ _ refl
-        ∙ first-cons _ _ (extends-pass q (omega (arith, sized .at-least)) (scanned g q) (q .vertices - 2) (omega (arith, scan-two, sized .at-least)) free) ∙ first-nil
+        ∙ first-cons _ _ (extends-pass q (omega (arith, sized .at-least)) whole (scanned g q) (q .vertices - 2) (omega (arith, scan-two)) (omega (arith, scan-two, sized .at-least))) ∙ first-nil
 
 -- ---- what is drawn
 
@@ -160,16 +160,12 @@ module _ (store query : List ℕ) (room : ℕ) (ok : drawFault store query room 
   unfolding drawFault
   drawn-query = first-head _ _ ok
 
-  drawn-free : stuck q (scanned g q) (q .vertices - 2) ≡ false
-  unfolding drawFault
-  drawn-free = refuse-zero 22 _ (first-head _ _ (first-tail _ _ (first-tail _ _ ok)))
-
   -- 'What it writes passes the plan check.'
   pub drawn-passes : checkFault query (drawnPlan g q) ≡ 0
   drawn-passes =
       let sized = read-sized query drawn-query in
       check-rules query (drawnPlan g q) drawn-query (drawn-file g q sized)
-      ∙ ap (rulesFault q []) (drawn-operators g q sized) ∙ drawn-rules g q sized (edges-proper query drawn-query) drawn-free
+      ∙ ap (rulesFault q []) (drawn-operators g q sized) ∙ drawn-rules g q sized (edges-proper query drawn-query) (query-connected query drawn-query)
 
 refused-by : (store query : List ℕ) (room : ℕ) → drawAnswer store query room .refusal ≡ 0 → drawFault store query room ≡ 0
 unfolding drawAnswer

@@ -5,6 +5,5 @@ pub mod Packing
 pub mod Drawing
 pub mod Tallies
 pub mod Turns
-pub mod Stuck
 pub mod Answers
 pub mod Worked

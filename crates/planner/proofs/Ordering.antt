@@ -1,5 +1,5 @@
--- The ordering breaks no rule: where it does not get stuck, each extend is by an uncovered vertex with an edge to the covered ones, and
--- n - 2 of them after a scan cover every vertex. Assumes nothing.
+-- The ordering of a connected query breaks no rule: each extend is by an uncovered vertex with an edge to the covered ones, and n - 2 of
+-- them after a scan cover every vertex. Assumes nothing.
 use mathlib.Core.Path.{_≡_, refl, sym, _∙_, ap, fun-ext}
 use mathlib.Core.Bool.{Bool, true, false, cond, not, _&&_, _||_, and-true}
 use mathlib.Core.List.{List, [], _∷_, map}
@@ -7,26 +7,28 @@ use Prim.Native.Nat.{ℕ, zero, suc, _+_, _<_}
 use native.Mathlib.Omega.{arith}
 use lib.Dec.{eqb, ltb}
 use lib.ListN.{length}
-use borrow.Author.Tests.{ltb-true, ltb-false, lt-ltb, le-ltb, eqb-true, eqb-false, eq-eqb, ne-eqb}
-use Rattle.lists.specs.Lists.{bit, range, all, any, count}
-use Rattle.lists.proofs.Tests.{clash, and-l, and-r, and-both, or-false-l, or-false-r, not-true}
+use borrow.Author.Tests.{ltb-true, lt-ltb, le-ltb, eqb-true}
+use Rattle.lists.specs.Lists.{bit, range, all, count}
+use Rattle.lists.proofs.Tests.{clash, and-both}
 use Rattle.lists.proofs.Bits.{bit-or}
 use Rattle.lists.proofs.All.{length-range}
-use Rattle.lists.proofs.Any.{any-count, any-at, any-below}
+use Rattle.lists.proofs.Any.{any-count}
 use Rattle.lists.proofs.Count.{count-le, count-sum, count-range-one}
 use Rattle.lists.proofs.Faults.{first-cons, first-nil, zero-refuse}
 use Rattle.graph.specs.Graph.{Edge}
-use Rattle.query.specs.Query.{Query, VertexSet, between, touches}
+use Rattle.query.specs.Query.{Query, VertexSet, between, touches, connected}
+use Rattle.query.specs.Connected.{Beside}
+use Rattle.query.proofs.Connected.{beside-counted}
 use Rattle.plan.specs.Plan.{extend, ends, plus}
 use Rattle.plan.specs.Check.{ruleFault, covered, endFault, rulesFault}
-use Rattle.planner.specs.Order.{degree, nextVertex, extendsFrom, stuck}
+use Rattle.planner.specs.Order.{degree, nextVertex, extendsFrom}
 use Rattle.planner.proofs.Choosing.{chosen-below, most-chosen}
 
 -- ---- one extend
 
 module _ (q : Query) (S : VertexSet) where
   -- A vertex with edges to the covered ones is uncovered, and some edge joins it to them; and the other way round.
-  pub degree-some : (v : ℕ) → 0 < degree q S v → (S v ≡ false) × (touches q v S ≡ true)
+  degree-some : (v : ℕ) → 0 < degree q S v → (S v ≡ false) × (touches q v S ≡ true)
   unfolding degree
   degree-some v h = go (S v) refl h
     where
@@ -34,36 +36,23 @@ module _ (q : Query) (S : VertexSet) where
       go true e l = absurd (omega arith)
       go false e l = (e, any-count (between v S) (q .edges) ∙ lt-ltb 0 _ l)
 
-  some-degree : (v : ℕ) → (not (S v) && touches q v S) ≡ true → 0 < degree q S v
+  some-degree : Beside q S → (v : ℕ) × (v < q .vertices) × (0 < degree q S v)
   unfolding degree
-  some-degree v t =
-      rw (not-true (S v) (and-l (not (S v)) (touches q v S) t))
-      (ltb-true 0 _ (sym (any-count (between v S) (q .edges)) ∙ and-r (not (S v)) (touches q v S) t))
+  some-degree b =
+      (b .vertex, b .below, rw (b .outside) (ltb-true 0 _ (sym (any-count (between (b .vertex) S) (q .edges)) ∙ b .joined)))
 
   module _ (some : 0 < q .vertices) where
-    pub next-below : nextVertex q S < q .vertices
+    next-below : nextVertex q S < q .vertices
     unfolding nextVertex
     next-below = chosen-below _ (q .vertices) some
 
-    -- No uncovered vertex has an edge to the covered ones exactly where the next vertex has none.
-    pub none-left : not (any (λ (v : ℕ). not (S v) && touches q v S) (range (q .vertices))) ≡ eqb (degree q S (nextVertex q S)) 0
+    -- In a connected query, where some vertices are covered and some are not, the next one is uncovered and touches the covered ones.
+    next-touches : connected q ≡ true → 0 < count S (range (q .vertices)) → count S (range (q .vertices)) < q .vertices
+        → (S (nextVertex q S) ≡ false) × (touches q (nextVertex q S) S ≡ true)
     unfolding nextVertex
-    none-left = go (any (λ (v : ℕ). not (S v) && touches q v S) (range (q .vertices))) refl
-      where
-        go : (b : Bool) → any (λ (v : ℕ). not (S v) && touches q v S) (range (q .vertices)) ≡ b → not b ≡ eqb (degree q S (nextVertex q S)) 0
-        go true e =
-            any-below (λ (v : ℕ). not (S v) && touches q v S) (q .vertices) e
-            (λ v l t. sym (ne-eqb (degree q S (nextVertex q S)) 0
-            (λ z. absurd (omega (arith, some-degree v t, most-chosen (degree q S) (q .vertices) some .most v l)))))
-        go false e =
-            sym (eq-eqb (degree q S (nextVertex q S)) 0 (none (ltb 0 (degree q S (nextVertex q S))) refl))
-          where
-            none : (c : Bool) → ltb 0 (degree q S (nextVertex q S)) ≡ c → degree q S (nextVertex q S) ≡ 0
-            none true t =
-                let d = degree-some (nextVertex q S) (ltb-true 0 _ t) in
-                clash (any-at (λ (v : ℕ). not (S v) && touches q v S) (q .vertices) (nextVertex q S) next-below
-                (and-both (not (S (nextVertex q S))) (touches q (nextVertex q S) S) (ap not (d .0)) (d .1))) e
-            none false t = omega (arith, ltb-false 0 (degree q S (nextVertex q S)) t)
+    next-touches c low high =
+        let d = some-degree (beside-counted q S c low high) in
+        degree-some (nextVertex q S) (omega (arith, d .2, most-chosen (degree q S) (q .vertices) some .most (d .0) (d .1)))
 
 -- ---- vertices covered
 
@@ -111,21 +100,22 @@ module _ (q : Query) where
         and-both (ltb (nextVertex q S) (q .vertices)) _ (lt-ltb _ _ (next-below q S some)) (extends-below (plus (nextVertex q S) S) k)
 
     -- They break no rule, and cover what is left.
-    pub extends-pass : (S : VertexSet) (k : ℕ) → count S (range (q .vertices)) + k ≡ q .vertices → stuck q S k ≡ false
+    pub extends-pass : connected q ≡ true → (S : VertexSet) (k : ℕ) → 0 < count S (range (q .vertices)) → count S (range (q .vertices)) + k ≡ q .vertices
         → rulesFault q (S ∷ []) (map extend (extendsFrom q S k)) ≡ 0
-    unfolding extendsFrom stuck rulesFault endFault ruleFault covered
-    extends-pass S zero e t =
+    unfolding extendsFrom rulesFault endFault ruleFault covered
+    extends-pass c S zero l e =
         first-cons _ _ (zero-refuse 15 (ltb 0 0) (le-ltb 0 0 (omega arith)))
         ∙ first-cons _ _ (zero-refuse 18 _ (ap not (count-full S (range (q .vertices)) (rw length-range (omega arith))))) ∙ first-nil
-    extends-pass S (suc k) e t =
+    extends-pass c S (suc k) l e =
         first-cons _ _ (zero-refuse 16 (S v || not (touches q v S)) (rw (d .0, d .1)))
-        ∙ first-cons _ _ (extends-pass (plus v S) k (omega (arith, count-plus v (q .vertices) S (next-below q S some) (d .0))) (or-false-r (not (any (λ (v : ℕ). not (S v) && touches q v S) (range (q .vertices)))) _ t))
+        ∙ first-cons _ _ (extends-pass c (plus v S) k (omega (arith, more)) (omega (arith, more)))
         ∙ first-nil
       where
         v : ℕ
         v = nextVertex q S
 
         d : (S v ≡ false) × (touches q v S ≡ true)
-        d =
-            let z : (degree q S v ≡ 0 → ⊥) = eqb-false (degree q S v) 0 (sym (none-left q S some) ∙ or-false-l _ (stuck q (plus v S) k) t) in
-            degree-some q S v (omega arith)
+        d = next-touches q S some c l (omega arith)
+
+        more : count (plus v S) (range (q .vertices)) ≡ 1 + count S (range (q .vertices))
+        more = count-plus v (q .vertices) S (next-below q S some) (d .0)

@@ -72,10 +72,6 @@ pub vertices-in : (d : QueryStruct) → queryIn d .vertices ≡ d .vertices
 unfolding queryIn
 vertices-in d = refl
 
-pub some-vertex : (d : QueryStruct) → Drawable d → 0 < queryIn d .vertices
-unfolding queryIn
-some-vertex d ok = omega (arith, ok .vertices)
-
 -- Of the first i edges of a struct.
 abbrev pub joined : QueryStruct → ℕ → VertexSet → ℕ → ℕ
 joined d v S i = count (between v S) (map (edgeOf d) (range i))

@@ -12,7 +12,7 @@ use Rattle.graph.specs.Graph.{covers}
 use Rattle.graph.specs.Store.{offsets, entries, storeOf, graphIn, wellFormed, storeFault}
 use Rattle.query.specs.Query.{reached, connected}
 use Rattle.query.specs.File.{queryOf, queryFault}
-use Rattle.planner.specs.Order.{chosen, edgesOf, scanEdge, degree, nextVertex, extendsFrom, stuck}
+use Rattle.planner.specs.Order.{chosen, edgesOf, scanEdge, degree, nextVertex, extendsFrom}
 use Rattle.planner.specs.Draw.{planBits, drawnPlan, drawFault, drawBytes}
 
 -- G: edges of label 1: 0→1, 0→2, 1→2, 1→3, 2→3.
@@ -36,10 +36,10 @@ fileRare =
 -- Scan 0, extend 2; scan 2, extend 0.
 pub plans : drawBytes storeG fileQ (9 ∷ 9 ∷ 9 ∷ 9 ∷ []) ∷ drawBytes storeG fileRare (9 ∷ 9 ∷ 9 ∷ 9 ∷ []) ∷ []
     ≡ (0x10 ∷ 0x05 ∷ 0x00 ∷ 9 ∷ []) ∷ (0x10 ∷ 0x24 ∷ 0x00 ∷ 9 ∷ []) ∷ []
-unfolding storeG fileQ fileRare drawBytes drawFault drawnPlan planBits chosen edgesOf scanEdge degree nextVertex extendsFrom stuck queryFault queryOf connected reached storeFault wellFormed graphIn storeOf entries offsets covers number bitsOf bytesOf bitAt fieldAt fillSet first range all any keep count same ascendsFrom ascending insert sort flatMap
+unfolding storeG fileQ fileRare drawBytes drawFault drawnPlan planBits chosen edgesOf scanEdge degree nextVertex extendsFrom queryFault queryOf connected reached storeFault wellFormed graphIn storeOf entries offsets covers number bitsOf bytesOf bitAt fieldAt fillSet first range all any keep count same ascendsFrom ascending insert sort flatMap
 plans = refl
 
 -- Two bytes are too few, a cut store is refused, and before it a cut query.
 pub refusals : drawFault storeG fileQ 2 ∷ drawFault (drop 1 storeG) fileQ 9 ∷ drawFault (drop 1 storeG) (drop 1 fileQ) 9 ∷ [] ≡ 24 ∷ 19 ∷ 8 ∷ []
-unfolding storeG fileQ drawFault drawnPlan planBits chosen edgesOf scanEdge degree nextVertex extendsFrom stuck queryFault queryOf connected reached storeFault wellFormed graphIn storeOf entries offsets covers number bitsOf bytesOf bitAt fieldAt fillSet first range all any keep count same ascendsFrom ascending insert sort flatMap
+unfolding storeG fileQ drawFault drawnPlan planBits chosen edgesOf scanEdge degree nextVertex extendsFrom queryFault queryOf connected reached storeFault wellFormed graphIn storeOf entries offsets covers number bitsOf bytesOf bitAt fieldAt fillSet first range all any keep count same ascendsFrom ascending insert sort flatMap
 refusals = refl

@@ -1,7 +1,7 @@
 -- What drawing a plan answers and leaves in the lent bytes, for every store, query file and bytes. Assumes nothing.
 use mathlib.Core.Bool.{cond}
 use mathlib.Core.List.{List, [], _∷_, _++_, flatMap}
-use Prim.Native.Nat.{ℕ, _+_, _-_}
+use Prim.Native.Nat.{ℕ, _+_}
 use lib.Dec.{eqb, ltb}
 use lib.ListN.{length, drop}
 use Rattle.lists.specs.Refusal.{refuse, first, answered}
@@ -11,7 +11,7 @@ use Rattle.graph.specs.Store.{graphIn, storeFault}
 use Rattle.query.specs.Query.{Query}
 use Rattle.query.specs.File.{queryOf, queryFault}
 use Rattle.plan.specs.Plan.{scanKind, extendKind}
-use Rattle.planner.specs.Order.{scanEdge, scanned, extendOrder, stuck}
+use Rattle.planner.specs.Order.{scanEdge, extendOrder}
 use Rattle.planner.specs.declared.DrawAnswer.{DrawAnswer}
 
 -- The bits of a scan and of extends: 'operator count (5 bits ..), then operators: kind (2 bits); 0 scan with a query edge's index (5), 1
@@ -29,8 +29,8 @@ planBits i vs = scanBits (1 + length vs) i ++ flatMap extendBits vs
 unfoldable pub drawnPlan : Graph → Query → List ℕ
 drawnPlan g q = bytesOf (planBits (scanEdge g q) (extendOrder g q))
 
--- 'It refuses, after the query's refusals and 19, with 23 when an extend is due and no uncovered vertex has an edge to the covered ones
--- and with 24 when the plan's bytes do not fit.'
+-- 'It refuses, after the query's refusals and 19, .. with 24 when the plan's bytes do not fit.' An extend that is due always finds a vertex
+-- (`SomeBeside`), so nothing gives 23.
 unfoldable pub drawFault : List ℕ → List ℕ → ℕ → ℕ
 drawFault store query room =
     let g = graphIn store in
@@ -38,7 +38,6 @@ drawFault store query room =
     first
     (queryFault query
     ∷ storeFault store
-    ∷ refuse 23 (stuck q (scanned g q) (q .vertices - 2))
     ∷ refuse 24 (ltb room (length (drawnPlan g q)))
     ∷ [])
 

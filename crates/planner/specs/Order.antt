@@ -1,12 +1,12 @@
 -- The ordering that is drawn for a query: 'one scan and n-2 extends'. Assumes nothing.
-use mathlib.Core.Bool.{Bool, false, cond, not, _&&_, _||_}
+use mathlib.Core.Bool.{Bool, cond}
 use mathlib.Core.List.{List, [], _∷_, map}
 use Prim.Native.Nat.{ℕ, zero, suc, _-_, _≤_, _<_}
 use lib.Dec.{ltb}
 use lib.ListN.{length}
-use Rattle.lists.specs.Lists.{range, any, count}
+use Rattle.lists.specs.Lists.{count}
 use Rattle.graph.specs.Graph.{Edge, Graph, covers}
-use Rattle.query.specs.Query.{Query, VertexSet, edgeAt, between, touches}
+use Rattle.query.specs.Query.{Query, VertexSet, edgeAt, between}
 use Rattle.plan.specs.Plan.{Operator, scan, extend, ends, plus}
 
 -- Of the numbers below n the best one, and of equally good ones the lowest: each is taken where it is better than the one taken before.
@@ -48,12 +48,6 @@ extendOrder g q = extendsFrom q (scanned g q) (q .vertices - 2)
 -- The drawn plan.
 abbrev pub drawnOperators : Graph → Query → List Operator
 drawnOperators g q = scan (scanEdge g q) ∷ map extend (extendOrder g q)
-
--- At one of k extends 'no uncovered vertex has an edge to the covered ones'.
-unfoldable pub stuck : Query → VertexSet → ℕ → Bool
-stuck q S zero = false
-stuck q S (suc k) =
-    not (any (λ (v : ℕ). not (S v) && touches q v S) (range (q .vertices))) || stuck q (plus (nextVertex q S) S) k
 
 -- What `chosen` means, in words of its own: k is below n, no other has less, and none below it as little.
 pub record LeastThenLowest (f : ℕ → ℕ) (n k : ℕ) : Type 0 where

@@ -26,16 +26,12 @@ impl DrawAnswer {
     }
 }
 
-// Draws the plan of a query that was read over an accepted store: 23, 24, or the plan.
+// Draws the plan of a query that was read over an accepted store: 24, or the plan.
 fn draw_accepted(store: &[u32], q: Query, plan: &mut [u8]) -> DrawAnswer
     requires { ⌜ Drawable q × (storeFault (now store) ≡ 0) ⌝ }
     ensures { λ r. ⌜ Drawn (graphIn (now (store .entry))) (queryIn q) (now (plan .entry)) (now (plan .exit)) r ⌝ }
 {
     let edge = order::scan_edge(q, &order::edge_counts(store));
-    let fault = order::stuck_fault(q, plan::ends(q.edge(edge)));
-    if fault != 0 {
-        return DrawAnswer::refused(fault);
-    }
     let bytes = pack::plan_bytes(q.vertices);
     if plan.len() < bytes {
         return DrawAnswer::refused(24);

@@ -4,16 +4,15 @@ use query::Edge;
 use query::Query;
 use query::set;
 ghost use mathlib.Core.Path.{_≡_};
-ghost use Prim.Native.Nat.{ℕ, _-_, _<_};
+ghost use Prim.Native.Nat.{ℕ, _<_};
 ghost use lib.Dec.{ltb};
 ghost use lib.ListN.{getD};
 ghost use Rattle.lists.specs.Lists.{bit};
-ghost use Rattle.lists.specs.Refusal.{refuse};
 ghost use Rattle.graph.specs.Store.{graphIn, storeFault};
 ghost use Rattle.query.specs.Query.{edgeAt, between};
 ghost use Rattle.query.specs.inner.Struct.{asEdge, queryIn, Held};
 ghost use Rattle.query.specs.inner.Mask.{inMask};
-ghost use Rattle.planner.specs.Order.{chosen, degree, nextVertex, stuck};
+ghost use Rattle.planner.specs.Order.{chosen, degree, nextVertex};
 ghost use Rattle.planner.specs.inner.Parts.{labelCounts, edgeCounts, Entries, Drawable};
 
 // How many values a query edge's label has.
@@ -116,23 +115,4 @@ pub fn next_vertex(q: Query, set: u32) -> usize
         }
     }
     best
-}
-
-// 23 where, at one of the extends after the set, no vertex outside has an edge to the covered ones, else 0.
-pub fn stuck_fault(q: Query, set: u32) -> u32
-    requires { ⌜ Drawable q ⌝ }
-    ensures { λ r. ⌜ r ≡ refuse 23 (stuck (queryIn q) (inMask set) (q .vertices - 2)) ⌝ }
-{
-    let extends = q.vertices - 2;
-    let mut covered = set;
-    let mut i = 0;
-    while i < extends {
-        let v = next_vertex(q, covered);
-        if degree(q, covered, v) == 0 {
-            return 23;
-        }
-        covered = set::only(v) | covered;
-        i += 1;
-    }
-    0
 }

@@ -10,6 +10,7 @@ use lib.ListN.{length}
 use borrow.Author.Tests.{ltb-true, ltb-false, lt-ltb, le-ltb, eqb-false}
 use Rattle.lists.specs.Lists.{range}
 use Rattle.lists.specs.Refusal.{refuse, first}
+use Rattle.lists.proofs.Tests.{not-false}
 use Rattle.lists.proofs.Faults.{first-head, first-tail, first-cons, refuse-zero, zero-refuse, first-some, first-one, first-group, first-after, first-stop, first-next}
 use Rattle.packed.specs.Field.{fieldAt, bitsIn, bytesFor}
 use Rattle.packed.proofs.Laws.{field-add, field-lt}
@@ -218,3 +219,7 @@ query-readable s e = file-readable s (first-head (queryFileFault s) _ (sym (quer
 -- An accepted file's query is one that the code's functions take.
 pub query-held : (s : List ℕ) → queryFault s ≡ 0 → Held (structOf (queryOf s))
 query-held s e = held s (query-readable s e .limits)
+
+-- It is connected.
+pub query-connected : (s : List ℕ) → queryFault s ≡ 0 → connected (queryOf s) ≡ true
+query-connected s e = not-false (connected (queryOf s)) (refuse-zero 10 _ (first-head _ _ (first-tail (queryFileFault s) _ (sym (query-parts s) ∙ e))))

@@ -5,5 +5,6 @@ pub mod Masks
 pub mod Touch
 pub mod Pairs
 pub mod Steps
+pub mod Connected
 pub mod FileLaws
 pub mod Limits

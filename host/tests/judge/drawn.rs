@@ -16,8 +16,8 @@ fn degree(query: &Query, v: usize, set: &[usize]) -> usize {
 }
 
 /// The scan of the edge whose label has the fewest data edges, then the lowest index; then by the uncovered vertex with the most query
-/// edges to the covered ones, then the lowest number. Refused with 23 where no uncovered vertex has one.
-pub fn plan(graph: &Graph, query: &Query) -> Result<Vec<Operator>, u32> {
+/// edges to the covered ones, then the lowest number.
+pub fn plan(graph: &Graph, query: &Query) -> Vec<Operator> {
     let mut by_size: Vec<(usize, usize)> =
         query.edges.iter().enumerate().map(|(i, edge)| (edges_of(graph, edge.2), i)).collect();
     by_size.sort();
@@ -30,12 +30,9 @@ pub fn plan(graph: &Graph, query: &Query) -> Result<Vec<Operator>, u32> {
             .map(|v| (query.edges.len() - degree(query, v, &set), v))
             .collect();
         by_degree.sort();
-        let (missing, v) = by_degree[0];
-        if missing == query.edges.len() {
-            return Err(23);
-        }
+        let v = by_degree[0].1;
         plan.push(Operator::Extend(v));
         set.push(v);
     }
-    Ok(plan)
+    plan
 }

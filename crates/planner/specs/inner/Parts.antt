@@ -1,18 +1,18 @@
 -- What the functions that draw a plan ask and answer one by one. Assumes nothing.
 use mathlib.Core.Path.{_≡_}
 use mathlib.Core.Bool.{true, cond}
-use mathlib.Core.List.{List, [], _∷_, _++_, map}
-use Prim.Native.Nat.{ℕ, suc, _-_, _/_, _≤_, _<_}
+use mathlib.Core.List.{List, _++_, map}
+use Prim.Native.Nat.{ℕ, suc, _/_, _≤_, _<_}
 use lib.Dec.{eqb, ltb}
 use lib.ListN.{length, drop}
 use Rattle.lists.specs.Lists.{range, all, count}
-use Rattle.lists.specs.Refusal.{refuse, first, answered}
+use Rattle.lists.specs.Refusal.{refuse, answered}
 use Rattle.graph.specs.Graph.{Graph, maxEdgeLabel, maxGraphEdges, entrySpan, entryEnd, covers}
 use Rattle.query.specs.Query.{Query}
 use Rattle.query.specs.File.{minVertices}
 use Rattle.query.specs.inner.Struct.{queryIn, Held, byteLabel}
 use Rattle.query.specs.declared.Query.{Query as QueryStruct}
-use Rattle.planner.specs.Order.{edgesOf, scanned, stuck}
+use Rattle.planner.specs.Order.{edgesOf}
 use Rattle.planner.specs.Draw.{drawnPlan}
 use Rattle.planner.specs.declared.DrawAnswer.{DrawAnswer}
 
@@ -36,12 +36,8 @@ pub record Drawable (d : QueryStruct) : Type 0 where
   pub edges : 0 < d .edges
   pub labels : all byteLabel (queryIn d .edges) ≡ true
 
--- The faults of a graph and a query that were accepted.
-abbrev pub lateFaults : Graph → Query → ℕ → List ℕ
-lateFaults g q room = refuse 23 (stuck q (scanned g q) (q .vertices - 2)) ∷ refuse 24 (ltb room (length (drawnPlan g q))) ∷ []
-
--- What is answered and left for these.
+-- What is answered and left for a graph and a query that were accepted.
 pub record Drawn (g : Graph) (q : Query) (before after : List ℕ) (r : DrawAnswer) : Type 0 where
-  pub refusal : r .refusal ≡ first (lateFaults g q (length before))
+  pub refusal : r .refusal ≡ refuse 24 (ltb (length before) (length (drawnPlan g q)))
   pub bytes : r .bytes ≡ answered (r .refusal) (length (drawnPlan g q))
   pub left : after ≡ cond (eqb (r .refusal) 0) (drawnPlan g q ++ drop (length (drawnPlan g q)) before) before
