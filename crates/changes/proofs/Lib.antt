@@ -1,0 +1,2 @@
+-- Laws of changes: their file, and the edited graph.
+pub mod Reading
