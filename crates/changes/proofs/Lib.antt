@@ -1,2 +1,4 @@
 -- Laws of changes: their file, and the edited graph.
 pub mod Reading
+pub mod Toggles
+pub mod Edited
