@@ -162,6 +162,44 @@ module _ (ks : List ℕ) (rising : ascending ks ≡ true) where
           let present : 0 < count (λ (k : ℕ). eqb k y) ks = any-count (λ (k : ℕ). eqb k y) ks i in
           omega (arith, alike p, taken-too y cs low present p, toggle-present p y rest (ascending-toggled ks (map changeKey cs) rising) (rw here present))
 
+  -- Each addition is one edge more, each other change one less.
+  pub edited-size : (cs : List Change) → ascending (map changeKey cs) ≡ true → all (applies ks) cs ≡ true
+      → length (toggled ks (map changeKey cs)) + length cs ≡ length ks + 2 * additions cs
+  unfolding toggled any count all ascending
+  edited-size [] a e = omega arith
+  edited-size (c ∷ cs) a e =
+      go (edited-size cs below others) (c .adds) (and-l (applies ks c) (all (applies ks) cs) e)
+    where
+      y : ℕ
+      y = changeKey c
+
+      rest : List ℕ
+      rest = toggled ks (map changeKey cs)
+
+      below : ascending (map changeKey cs) ≡ true
+      below = ascends-tail y (map changeKey cs) a
+
+      others : all (applies ks) cs ≡ true
+      others = and-r (applies ks c) (all (applies ks) cs) e
+
+      here : count (λ (k : ℕ). eqb k y) rest ≡ count (λ (k : ℕ). eqb k y) ks
+      here = sym (edited-alike cs below others (λ (k : ℕ). eqb k y)) ∙ counts-as y cs (ascends-above y (map changeKey cs) a)
+
+      go : length rest + length cs ≡ length ks + 2 * additions cs → (b : Bool)
+          → cond b (not (any (λ (k : ℕ). eqb k y) ks)) (any (λ (k : ℕ). eqb k y) ks) ≡ true
+          → length (toggle y rest) + suc (length cs) ≡ length ks + 2 * (bit b + additions cs)
+      go ih true i =
+          omega (
+            arith, length-count rest, length-count (toggle y rest),
+            toggle-absent (λ (k : ℕ). true) y rest (here ∙ none-count (λ (k : ℕ). eqb k y) ks (not-true _ i)),
+          )
+      go ih false i =
+          let present : 0 < count (λ (k : ℕ). eqb k y) ks = any-count (λ (k : ℕ). eqb k y) ks i in
+          omega (
+            arith, length-count rest, length-count (toggle y rest),
+            toggle-present (λ (k : ℕ). true) y rest (ascending-toggled ks (map changeKey cs) rising) (rw here present),
+          )
+
   module _ (cs : List Change) (a : ascending (map changeKey cs) ≡ true) (e : all (applies ks) cs ≡ true) where
     edited-same : (p : ℕ → Bool) → count p (editedKeys ks cs) ≡ count p (toggled ks (map changeKey cs))
     edited-same p = edited-count p cs ∙ edited-alike cs a e p

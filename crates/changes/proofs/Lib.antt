@@ -2,3 +2,4 @@
 pub mod Reading
 pub mod Toggles
 pub mod Edited
+pub mod EditedGraph
