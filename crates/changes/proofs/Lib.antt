@@ -3,3 +3,5 @@ pub mod Reading
 pub mod Toggles
 pub mod Edited
 pub mod EditedGraph
+pub mod Merging
+pub mod Nexts

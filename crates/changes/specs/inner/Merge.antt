@@ -1,0 +1,49 @@
+-- Merging the lists of a side with the changes, by keys. Assumes nothing.
+use mathlib.Core.Path.{_≡_}
+use mathlib.Core.Bool.{Bool, true, cond, not, _&&_}
+use mathlib.Core.List.{List, map}
+use Prim.Native.Nat.{ℕ, suc, _*_, _/_, _%_, _≤_, _<_}
+use lib.Dec.{eqb, ltb}
+use lib.ListN.{length, getD, drop}
+use Rattle.lists.specs.Lists.{range, all, keep, ascending}
+use Rattle.graph.specs.Graph.{entryEnd, forward, backward, key}
+use Rattle.changes.specs.File.{changeCount, changedEdge}
+use Rattle.changes.specs.inner.Reading.{Sized}
+use Rattle.changes.specs.inner.Toggle.{toggled}
+
+-- A key is one of an edge at v.
+abbrev pub keyAt : ℕ → ℕ → Bool
+keyAt v k = not (ltb k (v * entryEnd)) && ltb k (suc v * entryEnd)
+
+-- The entries of the edges at v.
+unfoldable pub entriesOf : ℕ → List ℕ → List ℕ
+entriesOf v ks = map (λ (k : ℕ). k % entryEnd) (keep (keyAt v) ks)
+
+-- The keys of the changes for a side: for the forward one in the file's order, for the backward one in a given order.
+unfoldable pub sideKeys : List ℕ → List ℕ → List ℕ
+sideKeys s order =
+    cond (eqb (length order) 0)
+    (map (λ (i : ℕ). key forward (changedEdge s i)) (range (changeCount s)))
+    (map (λ (i : ℕ). key backward (changedEdge s i)) order)
+
+-- A file with no order, or with the numbers of all its changes in some order.
+pub record Ordered (s order : List ℕ) : Type 0 where
+  pub sized : Sized s
+  pub full : (length order ≡ 0 → ⊥) → length order ≡ changeCount s
+  pub numbers : (i : ℕ) → i < length order → getD order i 0 < changeCount s
+
+-- The entry in a key of an edge at v, and one above all entries in any other.
+abbrev pub entryAt : ℕ → ℕ → ℕ
+entryAt v k = cond (eqb (k / entryEnd) v) (k % entryEnd) entryEnd
+
+-- That of the j-th key.
+abbrev pub nextEntry : List ℕ → ℕ → ℕ → ℕ
+nextEntry cs v j = cond (ltb j (length cs)) (entryAt v (getD cs j 0)) entryEnd
+
+-- A vertex's list and the changes of that vertex, which are the next ones of all, with room for what comes of them.
+pub record Mergeable (xs cs : List ℕ) (v from room : ℕ) : Type 0 where
+  pub list-ascends : ascending xs ≡ true
+  pub changes-ascend : ascending cs ≡ true
+  pub inside : from ≤ length cs
+  pub ahead : all (λ (k : ℕ). not (ltb k (v * entryEnd))) (drop from cs) ≡ true
+  pub fits : length (toggled xs (entriesOf v (drop from cs))) ≤ room
