@@ -5,3 +5,5 @@ pub mod Edited
 pub mod EditedGraph
 pub mod Merging
 pub mod Nexts
+pub mod Parting
+pub mod Siding

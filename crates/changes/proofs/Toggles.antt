@@ -29,7 +29,7 @@ unfolding toggle
 toggle-same y zs = rw (le-ltb y y (omega arith), eqb-refl y)
 
 -- A list by where y stands to its first number.
-toggle-cases : {A : Type 0} (y z : ℕ) → (y < z → A) → (y ≡ z → A) → (z < y → A) → A
+pub toggle-cases : {A : Type 0} (y z : ℕ) → (y < z → A) → (y ≡ z → A) → (z < y → A) → A
 toggle-cases {A} y z f g h = go (ltb y z) (eqb y z) refl refl
   where
     go : (a b : Bool) → ltb y z ≡ a → eqb y z ≡ b → A
@@ -37,11 +37,11 @@ toggle-cases {A} y z f g h = go (ltb y z) (eqb y z) refl refl
     go false true t u = g (eqb-true y z u)
     go false false t u = h (let l : z ≤ y = ltb-false y z t in let n : (y ≡ z → ⊥) = eqb-false y z u in omega arith)
 
-toggle-before : (y z : ℕ) (zs : List ℕ) → y < z → toggle y (z ∷ zs) ≡ y ∷ z ∷ zs
+pub toggle-before : (y z : ℕ) (zs : List ℕ) → y < z → toggle y (z ∷ zs) ≡ y ∷ z ∷ zs
 unfolding toggle
 toggle-before y z zs l = rw (lt-ltb y z l)
 
-toggle-equal : (y z : ℕ) (zs : List ℕ) → y ≡ z → toggle y (z ∷ zs) ≡ zs
+pub toggle-equal : (y z : ℕ) (zs : List ℕ) → y ≡ z → toggle y (z ∷ zs) ≡ zs
 toggle-equal y z zs e = rw e (toggle-same z zs)
 
 pub all-toggle : (p : ℕ → Bool) (y : ℕ) (zs : List ℕ) → p y ≡ true → all p zs ≡ true → all p (toggle y zs) ≡ true

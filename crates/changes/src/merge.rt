@@ -1,13 +1,13 @@
 // Merging the lists of a side of the old store with the changes: what is in one of the two alone stays.
 ghost use mathlib.Core.Path.{_≡_};
 ghost use mathlib.Core.List.{_++_};
-ghost use Prim.Native.Nat.{_+_, _≤_, _<_};
+ghost use Prim.Native.Nat.{suc, _+_, _≤_, _<_};
 ghost use lib.ListN.{length, getD, drop};
 ghost use Rattle.graph.specs.Graph.{entryEnd, forward, backward, key};
 ghost use Rattle.changes.specs.File.{changeCount, changedEdge};
 ghost use Rattle.changes.specs.inner.Reading.{Sized};
 ghost use Rattle.changes.specs.inner.Toggle.{toggled};
-ghost use Rattle.changes.specs.inner.Merge.{entriesOf, sideKeys, Ordered, entryAt, nextEntry, Mergeable};
+ghost use Rattle.changes.specs.inner.Merge.{entriesOf, sideKeys, Ordered, entryAt, nextEntry, Mergeable, sideWords, listOn, keysOn, Within, SideOf, Fitting};
 use crate::file;
 use graph::Graph;
 
@@ -105,5 +105,46 @@ fn merge_list(
     Merged {
         len: len + rest,
         next: at,
+    }
+}
+
+// The entries of a vertex below n on a side: a part of the store.
+fn neighbours(old: &[u32], n: usize, side: usize, v: usize) -> &[u32]
+    requires { ⌜ Within (now old) n side v ⌝ }
+    ensures { λ r. ⌜ now r ≡ listOn (now (old .entry)) n side v ⌝ }
+{
+    let entries = side + n + 1;
+    let from = entries + old[side + v] as usize;
+    let end = entries + old[side + v + 1] as usize;
+    &old[from..end]
+}
+
+// A side of the old store, which begins at a word, merged with the changes: the offsets and the entries of the new side.
+pub fn merge_side(
+    old: &[u32],
+    n: usize,
+    at: usize,
+    file: &[u8],
+    order: &[u32],
+    k: usize,
+    side: &mut [u32],
+)
+    requires { ⌜ SideOf (now old) n at (keysOn (now old) n at) ⌝ }
+    requires { ⌜ Ordered (now file) (now order) × (k ≡ changeCount (now file)) ⌝ }
+    requires { ⌜ Fitting (keysOn (now old) n at) (sideKeys (now file) (now order)) n (length (now side)) ⌝ }
+    ensures { λ _. ⌜ now (side .exit) ≡ sideWords n (toggled (keysOn (now (old .entry)) n at) (sideKeys (now (file .entry)) (now (order .entry))))
+        ++ drop (suc n + length (toggled (keysOn (now (old .entry)) n at) (sideKeys (now (file .entry)) (now (order .entry))))) (now (side .entry)) ⌝ }
+{
+    side[0] = 0;
+    let mut next = 0;
+    let mut len = 0;
+    let mut v = 0;
+    while v < n {
+        let list = neighbours(old, n, at, v);
+        let merged = merge_list(list, file, order, k, v, next, &mut side[n + 1 + len..]);
+        next = merged.next;
+        len += merged.len;
+        side[v + 1] = len as u32;
+        v += 1;
     }
 }

@@ -1,11 +1,11 @@
 -- Merging the lists of a side with the changes, by keys. Assumes nothing.
 use mathlib.Core.Path.{_≡_}
 use mathlib.Core.Bool.{Bool, true, cond, not, _&&_}
-use mathlib.Core.List.{List, map}
-use Prim.Native.Nat.{ℕ, suc, _*_, _/_, _%_, _≤_, _<_}
+use mathlib.Core.List.{List, _++_, map, flatMap}
+use Prim.Native.Nat.{ℕ, suc, _+_, _-_, _*_, _/_, _%_, _≤_, _<_}
 use lib.Dec.{eqb, ltb}
-use lib.ListN.{length, getD, drop}
-use Rattle.lists.specs.Lists.{range, all, keep, ascending}
+use lib.ListN.{length, getD, take, drop}
+use Rattle.lists.specs.Lists.{range, all, keep, count, ascending}
 use Rattle.graph.specs.Graph.{entryEnd, forward, backward, key}
 use Rattle.changes.specs.File.{changeCount, changedEdge}
 use Rattle.changes.specs.inner.Reading.{Sized}
@@ -47,3 +47,38 @@ pub record Mergeable (xs cs : List ℕ) (v from room : ℕ) : Type 0 where
   pub inside : from ≤ length cs
   pub ahead : all (λ (k : ℕ). not (ltb k (v * entryEnd))) (drop from cs) ≡ true
   pub fits : length (toggled xs (entriesOf v (drop from cs))) ≤ room
+
+-- ---- a side
+
+-- The offsets and the entries that keys make: those of n vertices.
+unfoldable pub sideWords : ℕ → List ℕ → List ℕ
+sideWords n ks = map (λ (v : ℕ). count (λ (k : ℕ). ltb k (v * entryEnd)) ks) (range (suc n)) ++ map (λ (k : ℕ). k % entryEnd) ks
+
+-- The list of vertex v on the side of a store that begins at a word.
+abbrev pub listOn : List ℕ → ℕ → ℕ → ℕ → List ℕ
+listOn old n side v = take (getD old (side + v + 1) 0 - getD old (side + v) 0) (drop (side + n + 1 + getD old (side + v) 0) old)
+
+-- That list lies in the store.
+pub record Within (old : List ℕ) (n side v : ℕ) : Type 0 where
+  pub vertex-in : v < n
+  pub rises : getD old (side + v) 0 ≤ getD old (side + v + 1) 0
+  pub ends : side + n + 1 + getD old (side + v + 1) 0 ≤ length old
+
+-- The keys that its lists tell.
+unfoldable pub keysOn : List ℕ → ℕ → ℕ → List ℕ
+keysOn old n side = flatMap (λ (v : ℕ). map (λ (e : ℕ). v * entryEnd + e) (listOn old n side v)) (range n)
+
+-- A side whose lists are those of some ascending keys.
+pub record SideOf (old : List ℕ) (n side : ℕ) (ks : List ℕ) : Type 0 where
+  pub within : (v : ℕ) → v < n → Within old n side v
+  pub lists : (v : ℕ) → v < n → listOn old n side v ≡ entriesOf v ks
+  pub rising : ascending ks ≡ true
+  pub bounded : all (λ (k : ℕ). ltb k (n * entryEnd)) ks ≡ true
+
+-- Changes of n vertices in ascending order, and room for what they make of a side's keys.
+pub record Fitting (ks cs : List ℕ) (n room : ℕ) : Type 0 where
+  pub few : n < 65536
+  pub changes-ascend : ascending cs ≡ true
+  pub changes-bounded : all (λ (k : ℕ). ltb k (n * entryEnd)) cs ≡ true
+  pub countable : length (toggled ks cs) < 4294967296
+  pub fits : suc n + length (toggled ks cs) ≤ room
