@@ -1,12 +1,12 @@
-// The graph file: N (16 bits), M (20), N labels (16), then M edges of source (16), label (8), target (16); and its faults.
+// The graph file: N (16 bits), M (20), N vertices of label (16) and day (16), then M edges of source (16), label (8), target (16); and its
+// faults.
 ghost use mathlib.Core.Path.{_≡_};
 ghost use Prim.Native.Nat.{suc, _+_, _*_, _≤_, _<_};
 ghost use lib.ListN.{length};
-ghost use Rattle.packed.specs.Field.{fieldAt};
 ghost use Rattle.graph.specs.Graph.{maxGraphVertices, maxGraphEdges, maxEdgeLabel, entryEnd, forward, entry, key};
 ghost use Rattle.graph.specs.File.{vertexCount, edgeCount, edgeIn, graphFault};
 ghost use Rattle.graph.specs.Store.{loadFault};
-ghost use Rattle.load.specs.inner.Reading.{Whole, edgeWith, graphLengthFault, graphEdgesFault};
+ghost use Rattle.load.specs.inner.Reading.{Whole, vertexField, edgeWith, graphLengthFault, graphEdgesFault};
 use graph::Graph;
 use packed::field;
 
@@ -24,20 +24,25 @@ pub fn edge_count(file: &[u8]) -> usize
     field(file, 16, 20) as usize
 }
 
-// The label of vertex v.
-pub fn vertex_label(file: &[u8], n: usize, v: usize) -> u32
-    requires { ⌜ Whole (now file) n × (v < n) ⌝ }
-    ensures { λ r. ⌜ r ≡ fieldAt (now (file .entry)) (36 + 16 * v) 16 ⌝ }
+// Where a vertex has its label and its day, in bytes past its start.
+pub const LABEL: usize = 0;
+
+pub const DAY: usize = 2;
+
+// The label or the day of vertex v. Both begin at bit 4 of a byte: so written, that byte takes no division.
+pub fn vertex_field(file: &[u8], n: usize, offset: usize, v: usize) -> u32
+    requires { ⌜ Whole (now file) n × (offset ≤ 2) × (v < n) ⌝ }
+    ensures { λ r. ⌜ r ≡ vertexField (now (file .entry)) offset v ⌝ }
 {
-    field(file, 36 + 16 * v, 16)
+    field(file, 8 * (4 + 4 * v + offset) + 4, 16)
 }
 
-// The bit position of edge i in a file of n vertices, as bit 4 of a byte: so written, the byte that a field begins in takes no division.
+// The bit position of edge i in a file of n vertices, as bit 4 of a byte too.
 fn edge_start(n: usize, i: usize) -> usize
     requires { ⌜ (n < suc maxGraphVertices) × (i < suc maxGraphEdges) ⌝ }
-    ensures { λ r. ⌜ r ≡ 36 + 16 * n + 40 * i ⌝ }
+    ensures { λ r. ⌜ r ≡ 36 + 32 * n + 40 * i ⌝ }
 {
-    8 * (4 + 2 * n + 5 * i) + 4
+    8 * (4 + 4 * n + 5 * i) + 4
 }
 
 pub fn source(file: &[u8], n: usize, i: usize) -> u32
@@ -71,7 +76,7 @@ fn length_fault(file: &[u8]) -> u32
     }
     let n = vertex_count(file);
     let m = edge_count(file);
-    let size = 5 + 2 * n + 5 * m;
+    let size = 5 + 4 * n + 5 * m;
     if file.len() < size {
         return 1;
     }

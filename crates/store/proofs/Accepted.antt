@@ -6,10 +6,12 @@ use Prim.Native.Nat.{ℕ, suc, _+_, _-_, _≤_, _<_}
 use native.Mathlib.Omega.{arith}
 use lib.Dec.{ltb}
 use lib.ListN.{length, getD, take, drop, take-append-drop, length-append}
+use lib.Seq.{getD-take, getD-drop}
 use borrow.Author.Tests.{ltb-true, lt-ltb}
 use Rattle.lists.specs.Lists.{ascending}
+use Rattle.lists.proofs.All.{all-getD}
 use Rattle.lists.proofs.Count.{count-le, count-mono}
-use Rattle.graph.specs.Graph.{Edge, Graph, Direction, forward, backward, near}
+use Rattle.graph.specs.Graph.{Edge, Graph, Direction, forward, backward, near, dayOf}
 use Rattle.graph.specs.Store.{storeOf, storeSize, usedWords, graphIn, storeFault}
 use Rattle.graph.specs.inner.Side.{sideAt}
 use Rattle.graph.proofs.WellFormed.{WellFormed, fitting, well-formed}
@@ -36,7 +38,7 @@ module _ (store : List ℕ) (accepted : storeFault store ≡ 0) where
 
   pub store-length : storeSize (graphIn store) ≤ length store
   store-length =
-      omega (arith, length-store (graphIn store) (graph-formed .labelled), simp length-append at (ap length store-whole))
+      omega (arith, length-store (graphIn store) (graph-formed .described), simp length-append at (ap length store-whole))
 
   -- Its first two words are its counts.
   pub store-vertices : verticesIn store ≡ graphIn store .vertices
@@ -47,6 +49,17 @@ module _ (store : List ℕ) (accepted : storeFault store ≡ 0) where
   unfolding storeOf
   store-edges = ap (λ (l : List ℕ). getD l 1 0) store-whole
 
+  -- A vertex's day, where it stands, and that it fits 16 bits.
+  pub day-in : (y : ℕ) → y < verticesIn store → dayOf (graphIn store) y ≡ getD store (2 + verticesIn store + y) 0
+  unfolding graphIn
+  day-in y h = getD-take (verticesIn store) (drop (2 + verticesIn store) store) y 0 h ∙ getD-drop (2 + verticesIn store) store y 0
+
+  pub day-fits : (y : ℕ) → y < verticesIn store → getD store (2 + verticesIn store + y) 0 < 65536
+  day-fits y h =
+      ltb-true _ 65536
+      (ap (λ (t : ℕ). ltb t 65536) (sym (day-in y h))
+      ∙ all-getD (λ (t : ℕ). ltb t 65536) (graphIn store .days) y 0 (omega (arith, graph-formed .described .1, store-vertices)) (graph-formed .days-fit))
+
   module _ (d : Direction) where
     side-begins : sideIn d store ≡ sideStart d (graphIn store)
     side-begins = ap₂ (λ (n m : ℕ). sideAt d n m) store-vertices store-edges
@@ -55,7 +68,7 @@ module _ (store : List ℕ) (accepted : storeFault store ≡ 0) where
     pub offset-in : (v : ℕ) → v ≤ graphIn store .vertices → getD store (sideIn d store + v) 0 ≡ offset d (graphIn store) v
     offset-in v h =
         ap₂ (λ (s : List ℕ) (n : ℕ). getD s (n + v) 0) store-whole side-begins
-        ∙ store-offset (graphIn store) (graph-formed .labelled) (drop (storeSize (graphIn store)) store) d v h
+        ∙ store-offset (graphIn store) (graph-formed .described) (drop (storeSize (graphIn store)) store) d v h
 
     module _ (v : ℕ) (inside : v < graphIn store .vertices) where
       next : getD store (sideIn d store + v + 1) 0 ≡ offset d (graphIn store) (suc v)

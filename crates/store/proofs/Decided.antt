@@ -1,5 +1,5 @@
 -- The tests of the store check, taken together, are refusal 19. Assumes nothing.
-use mathlib.Core.Path.{_≡_, refl, sym, _∙_, ap}
+use mathlib.Core.Path.{_≡_, refl, sym, _∙_, ap, ap₂}
 use mathlib.Core.Bool.{Bool, true, false, _&&_}
 use mathlib.Core.List.{List}
 use Prim.Native.Nat.{ℕ, suc, _+_, _-_, _<_}
@@ -11,7 +11,7 @@ use Rattle.lists.proofs.Tests.{and-l, and-r, and-both}
 use Rattle.graph.specs.Graph.{Direction, forward, backward}
 use Rattle.graph.specs.Store.{graphIn, storeOf, storeSize, wellFormed, storeFault}
 use Rattle.store.specs.inner.Side.{Within, verticesIn, edgesIn, sideIn}
-use Rattle.store.specs.inner.Check.{unless, countsFit, labelsFit, offsetsFit, offsetsOn, sideFits, sideGood, GoodSide, sideMirrored, Counted}
+use Rattle.store.specs.inner.Check.{unless, countsFit, labelsFit, daysFit, offsetsFit, offsetsOn, sideFits, sideGood, GoodSide, sideMirrored, Counted}
 use Rattle.store.proofs.Counting.{counted-as, forward-room, backward-room}
 use Rattle.store.proofs.Loops.{answer-hands, answer-passes}
 use Rattle.store.proofs.Offsets.{offsets-rising, offsets-within}
@@ -41,26 +41,37 @@ module _ (store : List ℕ) (n m side : ℕ) {r : ℕ} (e : r ≡ unless (offset
   pub offsets-then : r ≡ 0 → unless (sideFits store n side) ≡ unless (sideGood store n m side)
   offsets-then z = ap (λ (b : Bool). unless (b && sideFits store n side)) (sym (offsets-pass z))
 
+-- ---- the labels and the days
+
+-- The parts of a store that hold them.
+module _ (store : List ℕ) {n days : ℕ} (named : n ≡ verticesIn store) (at : days ≡ 2 + n) where
+  pub labels-part : unless (all (λ (l : ℕ). ltb l 65536) (take (days - 2) (drop 2 store))) ≡ unless (labelsFit store)
+  unfolding labelsFit
+  labels-part =
+      ap (λ (k : ℕ). unless (all (λ (l : ℕ). ltb l 65536) (take k (drop 2 store)))) (let e : days - 2 ≡ verticesIn store = omega arith in e)
+
+  pub days-part : unless (all (λ (t : ℕ). ltb t 65536) (take (days + n - days) (drop days store))) ≡ unless (daysFit store)
+  unfolding daysFit
+  days-part =
+      ap₂ (λ (k d : ℕ). unless (all (λ (t : ℕ). ltb t 65536) (take k (drop d store))))
+      (let e : days + n - days ≡ verticesIn store = omega arith in e) (at ∙ ap (λ (k : ℕ). 2 + k) named)
+
+-- Where the labels fit, the days decide.
+pub days-decide : (store : List ℕ) {r : ℕ} → r ≡ unless (labelsFit store) → r ≡ 0
+    → unless (daysFit store) ≡ unless (labelsFit store && daysFit store)
+days-decide store e z = ap (λ (b : Bool). unless (b && daysFit store)) (sym (answer-passes (labelsFit store) e z))
+
 -- ---- the whole
 
--- The labels stand before the forward side.
-abbrev pub labelsBefore : List ℕ → ℕ → Bool
-labelsBefore store one = all (λ (l : ℕ). ltb l 65536) (take (one - 2) (drop 2 store))
-
-labels-part : (store : List ℕ) → labelsFit store ≡ labelsBefore store (sideIn forward store)
-unfolding labelsFit
-labels-part store =
-    ap (λ (k : ℕ). all (λ (l : ℕ). ltb l 65536) (take k (drop 2 store))) (let e : verticesIn store ≡ sideIn forward store - 2 = omega arith in e)
-
--- The tests that follow those of the counts, by the counts and by where the sides begin.
+-- The tests that follow those of the counts, the labels and the days, by the counts and by where the sides begin.
 record PassedAt (store : List ℕ) (n m one two : ℕ) : Type 0 where
-  labels : labelsBefore store one ≡ true
   there : sideGood store n m one ≡ true
   back : sideGood store n m two ≡ true
   mirrored : sideMirrored store n one two ≡ true
 
 -- The tests of both directions.
-module _ {store : List ℕ} (k : countsFit store ≡ true) (p : PassedAt store (verticesIn store) (edgesIn store) (sideIn forward store) (sideIn backward store)) where
+module _ {store : List ℕ} (k : countsFit store ≡ true) (f : (labelsFit store && daysFit store) ≡ true)
+    (p : PassedAt store (verticesIn store) (edgesIn store) (sideIn forward store) (sideIn backward store)) where
   sides : (d : Direction) → sideGood store (verticesIn store) (edgesIn store) (sideIn d store) ≡ true
   sides forward = p .there
   sides backward = p .back
@@ -69,7 +80,8 @@ module _ {store : List ℕ} (k : countsFit store ≡ true) (p : PassedAt store (
   all-passed =
       record {
         counts = k;
-        labels = labels-part store ∙ p .labels;
+        labels = and-l (labelsFit store) (daysFit store) f;
+        days = and-r (labelsFit store) (daysFit store) f;
         sides = sides;
         mirrors = p .mirrored;
       }
@@ -79,14 +91,13 @@ module _ {store : List ℕ} {n m one two : ℕ} (k : Counted store n m one two) 
   passed-at p =
       counted-as k (PassedAt store)
       (record {
-        labels = sym (labels-part store) ∙ p .labels;
         there = p .sides forward;
         back = p .sides backward;
         mirrored = p .mirrors;
       })
 
-  at-passed : PassedAt store n m one two → Passed store
-  at-passed = counted-as k (λ (a b c d : ℕ). PassedAt store a b c d → Passed store) (all-passed (k .counts))
+  at-passed : (labelsFit store && daysFit store) ≡ true → PassedAt store n m one two → Passed store
+  at-passed f = counted-as k (λ (a b c d : ℕ). PassedAt store a b c d → Passed store) (all-passed (k .counts) f)
 
 -- An answer other than 0 to a test that every accepted store passes is the refusal.
 refuses : (store : List ℕ) (b : Bool) {r : ℕ} → r ≡ unless b → (r ≡ 0 → ⊥) → (Passed store → b ≡ true) → r ≡ storeFault store
@@ -103,11 +114,16 @@ decides store false {r} e f g = refuses store false e (λ z. omega arith) f
 pub counts-refuse : (store : List ℕ) {r : ℕ} → r ≡ unless (countsFit store) → (r ≡ 0 → ⊥) → r ≡ storeFault store
 counts-refuse store e h = refuses store (countsFit store) e h (λ p. p .counts)
 
+pub vertices-refuse : (store : List ℕ) {r : ℕ} → r ≡ unless (labelsFit store && daysFit store) → (r ≡ 0 → ⊥) → r ≡ storeFault store
+vertices-refuse store e h =
+    refuses store (labelsFit store && daysFit store) e h (λ p. and-both (labelsFit store) (daysFit store) (p .labels) (p .days))
+
+pub vertices-pass : (store : List ℕ) {r : ℕ} → r ≡ unless (labelsFit store && daysFit store) → r ≡ 0
+    → (labelsFit store && daysFit store) ≡ true
+vertices-pass store e z = answer-passes (labelsFit store && daysFit store) e z
+
 -- The answers in turn: where one is not 0 it is the refusal, and where it is 0 its test is passed.
 module _ {store : List ℕ} {n m one two : ℕ} (k : Counted store n m one two) {r : ℕ} where
-  pub labels-refuse : r ≡ unless (labelsBefore store one) → (r ≡ 0 → ⊥) → r ≡ storeFault store
-  labels-refuse e h = refuses store (labelsBefore store one) e h (λ p. passed-at k p .labels)
-
   pub rises-refuse : r ≡ unless (offsetsFit m (offsetsOn store n one)) → (r ≡ 0 → ⊥) → r ≡ storeFault store
   rises-refuse e h =
       refuses store (offsetsFit m (offsetsOn store n one)) e h
@@ -116,9 +132,6 @@ module _ {store : List ℕ} {n m one two : ℕ} (k : Counted store n m one two) 
   pub back-refuses : r ≡ unless (sideGood store n m two) → (r ≡ 0 → ⊥) → r ≡ storeFault store
   back-refuses e h = refuses store (sideGood store n m two) e h (λ p. passed-at k p .back)
 
-  pub labels-pass : r ≡ unless (labelsBefore store one) → r ≡ 0 → labelsBefore store one ≡ true
-  labels-pass e z = answer-passes (labelsBefore store one) e z
-
   pub rises-pass : r ≡ unless (offsetsFit m (offsetsOn store n one)) → r ≡ 0 → offsetsFit m (offsetsOn store n one) ≡ true
   rises-pass e z = offsets-pass store n m one e z
 
@@ -126,17 +139,16 @@ module _ {store : List ℕ} {n m one two : ℕ} (k : Counted store n m one two) 
   back-passes e z = answer-passes (sideGood store n m two) e z
 
   -- The last one decides.
-  pub mirrors-decide : r ≡ unless (sideFits store n one && sideMirrored store n one two) → labelsBefore store one ≡ true
+  pub mirrors-decide : r ≡ unless (sideFits store n one && sideMirrored store n one two) → (labelsFit store && daysFit store) ≡ true
       → offsetsFit m (offsetsOn store n one) ≡ true → sideGood store n m two ≡ true → r ≡ storeFault store
-  mirrors-decide e labels offsets back =
+  mirrors-decide e described offsets back =
       decides store (sideFits store n one && sideMirrored store n one two) e
       (λ p.
       and-both (sideFits store n one) (sideMirrored store n one two)
       (and-r (offsetsFit m (offsetsOn store n one)) (sideFits store n one) (passed-at k p .there)) (passed-at k p .mirrored))
       (λ t.
-      at-passed k
+      at-passed k described
       (record {
-        labels = labels;
         there = and-both (offsetsFit m (offsetsOn store n one)) (sideFits store n one) offsets (and-l (sideFits store n one) (sideMirrored store n one two) t);
         back = back;
         mirrored = and-r (sideFits store n one) (sideMirrored store n one two) t;

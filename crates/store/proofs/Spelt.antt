@@ -22,7 +22,7 @@ use Rattle.graph.proofs.Keys.{keys-ascend, keys-below}
 use Rattle.graph.proofs.Parts.{offset, side, store-shape}
 use Rattle.graph.proofs.StoreGraph.{store-accepted}
 use Rattle.store.specs.inner.Side.{listOn, verticesIn, edgesIn, sideIn}
-use Rattle.store.specs.inner.Check.{countsFit, labelsFit, offsetsFit, offsetsOn, sideFits, sideGood, GoodSide, member, mirror, listMirrored, sideMirrored}
+use Rattle.store.specs.inner.Check.{countsFit, labelsFit, daysFit, offsetsFit, offsetsOn, sideFits, sideGood, GoodSide, member, mirror, listMirrored, sideMirrored}
 use Rattle.store.proofs.Counting.{Counts, counts-fit}
 use Rattle.store.proofs.Members.{member-sort, ascending-covers}
 use Rattle.store.proofs.Accepted.{side-ends}
@@ -34,6 +34,7 @@ use Rattle.store.proofs.Fits.{goodEntry, Entry, good-entry, fit-entries
 pub record Passed (store : List ℕ) : Type 0 where
   pub counts : countsFit store ≡ true
   pub labels : labelsFit store ≡ true
+  pub days : daysFit store ≡ true
   pub sides : (d : Direction) → sideGood store (verticesIn store) (edgesIn store) (sideIn d store) ≡ true
   pub mirrors : sideMirrored store (verticesIn store) (sideIn forward store) (sideIn backward store) ≡ true
 
@@ -45,9 +46,9 @@ listTo store d v = listOn store (verticesIn store) (sideIn d store) v
 list-in : (store : List ℕ) (v : ℕ) → listIn store v ≡ listTo store forward v
 list-in store v =
     let n : ℕ = verticesIn store in
-    let from : ℕ = getD store (2 + n + v) 0 in
+    let from : ℕ = getD store (2 + 2 * n + v) 0 in
     ap₂ (λ (to base : ℕ). take (getD store to 0 - from) (drop base store))
-    (let e : 2 + n + suc v ≡ 2 + n + v + 1 = omega arith in e) (let e : 3 + 2 * n + from ≡ 2 + n + n + 1 + from = omega arith in e)
+    (let e : 2 + 2 * n + suc v ≡ 2 + 2 * n + v + 1 = omega arith in e) (let e : 3 + 3 * n + from ≡ 2 + 2 * n + n + 1 + from = omega arith in e)
 
 edges-in : (store : List ℕ) → graphIn store .edges ≡ flatMap (λ (v : ℕ). map (entryEdge v) (listTo store forward v)) (range (verticesIn store))
 unfolding graphIn
@@ -122,14 +123,19 @@ module _ (store : List ℕ) (passed : Passed store) where
       let f : Entry n k = good-entry n k t in
       edge-fitting n (entryEdge v k) (record { source-in = h; target-in = f .inside; label-given = omega arith; label-fits = omega arith })))
 
+  -- A part of n words.
+  part-length : (at : ℕ) → at ≤ 2 + n → length (take n (drop at store)) ≡ n
+  part-length at h = length-take-le n (drop at store) (rw length-drop (let r : usedWords n m ≤ length store = counted .room in omega arith))
+
   well : WellFormed g
-  unfolding graphIn labelsFit
+  unfolding graphIn labelsFit daysFit
   well =
       record {
         few-vertices = counted .few-vertices;
         few-edges = rw edge-count (counted .few-edges);
-        labelled = length-take-le n (drop 2 store) (rw length-drop (let r : usedWords n m ≤ length store = counted .room in omega arith));
+        described = (part-length 2 (omega arith), part-length (2 + n) (omega arith));
         labels-fit = passed .labels;
+        days-fit = passed .days;
         edges-fit = edges-fit;
         edges-ascend = ap ascending (forward-keys store) ∙ keys-ascending (listTo store forward) n (list-fit forward) (side-ascends (good forward));
       }
@@ -193,6 +199,9 @@ module _ (store : List ℕ) (passed : Passed store) where
       ∙ ap (λ (k : ℕ). take k (drop (sideIn d store + n + 1) store)) (rising d .ends)
 
   -- Its words, part after part.
+  part-then : (at : ℕ) → drop at store ≡ take n (drop at store) ++ drop (at + n) store
+  part-then at = sym (take-append-drop n (drop at store)) ∙ ap (λ (l : List ℕ). take n (drop at store) ++ l) (drop-drop n at store)
+
   side-spelt : (d : Direction) → drop (sideIn d store) store ≡ side d g (drop (sideIn d store + n + 1 + m) store)
   side-spelt d =
       sym (take-append-drop (suc n) (drop (sideIn d store) store))
@@ -208,11 +217,13 @@ module _ (store : List ℕ) (passed : Passed store) where
       drop-cons store 0 0 (omega (arith, counted .named))
       ∙ ap (λ (l : List ℕ). n ∷ l) (drop-cons store 1 0 (counted .named))
       ∙ ap (λ (l : List ℕ). n ∷ m ∷ l)
-      (sym (take-append-drop n (drop 2 store))
+      (part-then 2
       ∙ ap (λ (l : List ℕ). take n (drop 2 store) ++ l)
-      (drop-drop n 2 store ∙ side-spelt forward
-      ∙ ap (side forward g) (ap (λ (k : ℕ). drop k store) (let e : sideIn forward store + n + 1 + m ≡ sideIn backward store = omega arith in e) ∙ side-spelt backward)))
-      ∙ ap (λ (k : ℕ). (n ∷ k ∷ take n (drop 2 store)) ++ side forward g (side backward g rest)) (sym edge-count)
+      (part-then (2 + n)
+      ∙ ap (λ (l : List ℕ). take n (drop (2 + n) store) ++ l)
+      (ap (λ (k : ℕ). drop k store) (let e : 2 + n + n ≡ sideIn forward store = omega arith in e) ∙ side-spelt forward
+      ∙ ap (side forward g) (ap (λ (k : ℕ). drop k store) (let e : sideIn forward store + n + 1 + m ≡ sideIn backward store = omega arith in e) ∙ side-spelt backward))))
+      ∙ ap (λ (k : ℕ). (n ∷ k ∷ take n (drop 2 store)) ++ (take n (drop (2 + n) store) ++ side forward g (side backward g rest))) (sym edge-count)
       ∙ sym (store-shape g rest)
     where
       rest : List ℕ

@@ -17,7 +17,7 @@ use Rattle.graph.specs.Store.{usedWords, graphIn, storeFault}
 use Rattle.graph.proofs.WellFormed.{WellFormed, fitting}
 use Rattle.graph.proofs.Keys.{near-in, far-in}
 use Rattle.store.specs.inner.Side.{verticesIn, edgesIn, sideIn}
-use Rattle.store.specs.inner.Check.{countsFit, labelsFit, offsetsFit, offsetsOn, listFits, sideFits, member, mirror, listMirrored, sideMirrored}
+use Rattle.store.specs.inner.Check.{countsFit, labelsFit, daysFit, offsetsFit, offsetsOn, listFits, sideFits, member, mirror, listMirrored, sideMirrored}
 use Rattle.store.specs.inner.Portion.{listOf}
 use Rattle.store.proofs.Counting.{fit-counts}
 use Rattle.store.proofs.Listed.{list-all, list-any, list-ascends, entries-given, entries-fit, entries-in}
@@ -90,11 +90,12 @@ module _ (store : List ℕ) (accepted : storeFault store ≡ 0) where
       }
 
   pub accepted-passed : Passed store
-  unfolding labelsFit sideFits sideMirrored listMirrored graphIn
+  unfolding labelsFit daysFit sideFits sideMirrored listMirrored graphIn
   accepted-passed =
       record {
         counts = counts-pass;
         labels = formed .labels-fit;
+        days = formed .days-fit;
         sides =
             λ d.
             and-both (offsetsFit (edgesIn store) (offsetsOn store (verticesIn store) (sideIn d store))) (sideFits store (verticesIn store) (sideIn d store))

@@ -10,9 +10,9 @@ ghost use lib.ListN.{length, getD, drop};
 ghost use Rattle.lists.specs.Lists.{bit, range, all, count, total, ascending};
 ghost use Rattle.graph.specs.Graph.{maxGraphVertices, maxGraphEdges};
 ghost use Rattle.graph.specs.Store.{storeFault};
-ghost use Rattle.store.specs.inner.Side.{Within};
+ghost use Rattle.store.specs.inner.Side.{Within, verticesIn};
 ghost use Rattle.store.specs.inner.Order.{fallsFrom, startFalls, faultsOf};
-ghost use Rattle.store.specs.inner.Check.{unless, countsFit, member, offsetsFit, offsetsOn, entryFits, listFits, sideFits, sideGood, GoodSide, listMirrored, sideMirrored, Counted};
+ghost use Rattle.store.specs.inner.Check.{unless, countsFit, labelsFit, daysFit, member, offsetsFit, offsetsOn, entryFits, listFits, sideFits, sideGood, GoodSide, listMirrored, sideMirrored, Counted};
 
 // 19 where a word is above a limit, else 0.
 fn words_fault(part: &[u32], limit: u32) -> u32
@@ -300,15 +300,24 @@ fn counts_fault(store: &[u32]) -> u32
     0
 }
 
-// 19 where the labels or the sides of a store whose counts are right are not as they should be; else 0.
-fn sides_fault(store: &[u32], n: usize, m: u32, forward: usize, backward: usize) -> u32
-    requires { ⌜ Counted (now store) n m forward backward ⌝ }
-    ensures { λ r. ⌜ r ≡ storeFault (now (store .entry)) ⌝ }
+// 19 where a label or a day is above its limit, else 0. The days stand after the labels.
+fn vertices_fault(store: &[u32], n: usize, days: usize) -> u32
+    requires { ⌜ (n ≡ verticesIn (now store)) × (days ≡ 2 + n) × (days + n ≤ length (now store)) ⌝ }
+    ensures { λ r. ⌜ r ≡ unless (labelsFit (now (store .entry)) && daysFit (now (store .entry))) ⌝ }
 {
-    let labels = words_fault(&store[Graph::LABELS..forward], Graph::MAX_VERTEX_LABEL);
+    let labels = words_fault(&store[Graph::LABELS..days], Graph::MAX_VERTEX_LABEL);
     if labels != 0 {
         return labels;
     }
+    words_fault(&store[days..days + n], Graph::MAX_DAY)
+}
+
+// 19 where the sides of a store whose counts, labels and days are right are not as they should be; else 0.
+fn sides_fault(store: &[u32], n: usize, m: u32, forward: usize, backward: usize) -> u32
+    requires { ⌜ Counted (now store) n m forward backward ⌝ }
+    requires { ⌜ (labelsFit (now store) && daysFit (now store)) ≡ true ⌝ }
+    ensures { λ r. ⌜ r ≡ storeFault (now (store .entry)) ⌝ }
+{
     let offsets = side_offsets_fault(store, n, m, forward);
     if offsets != 0 {
         return offsets;
@@ -330,5 +339,9 @@ pub fn store_fault(store: &[u32]) -> u32
         return counts;
     }
     let g = Graph::of_store(store);
+    let vertices = vertices_fault(store, g.vertices, g.days());
+    if vertices != 0 {
+        return vertices;
+    }
     sides_fault(store, g.vertices, g.edges as u32, g.forward(), g.backward())
 }

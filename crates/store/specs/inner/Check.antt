@@ -1,4 +1,4 @@
--- The parts of refusal 19, as the store check tests them: counts and labels in their ranges, offsets that rise from 0 to M,
+-- The parts of refusal 19, as the store check tests them: counts, labels and days in their ranges, offsets that rise from 0 to M,
 -- lists that ascend, and each forward entry mirrored on the backward side. Assumes nothing.
 use mathlib.Core.Path.{_≡_}
 use mathlib.Core.Bool.{Bool, true, false, not, _&&_}
@@ -8,7 +8,7 @@ use lib.Dec.{eqb, leb, ltb}
 use lib.ListN.{length, take, drop}
 use Rattle.lists.specs.Lists.{range, all, any, ascendsFrom}
 use Rattle.lists.specs.Refusal.{refuse}
-use Rattle.graph.specs.Graph.{maxGraphVertices, maxGraphEdges, maxVertexLabel, entrySpan, entryEnd, forward, backward}
+use Rattle.graph.specs.Graph.{maxGraphVertices, maxGraphEdges, maxVertexLabel, maxDay, entrySpan, entryEnd, forward, backward}
 use Rattle.graph.specs.Store.{usedWords}
 use Rattle.store.specs.inner.Side.{listOn, Within, verticesIn, edgesIn, sideIn}
 
@@ -24,6 +24,9 @@ countsFit store =
 
 unfoldable pub labelsFit : List ℕ → Bool
 labelsFit store = all (λ (l : ℕ). ltb l (suc maxVertexLabel)) (take (verticesIn store) (drop 2 store))
+
+unfoldable pub daysFit : List ℕ → Bool
+daysFit store = all (λ (t : ℕ). ltb t (suc maxDay)) (take (verticesIn store) (drop (2 + verticesIn store) store))
 
 -- 'Offsets count entries from 0': they start at 0, never fall, and end at m.
 unfoldable pub risesTo : ℕ → ℕ → List ℕ → Bool
