@@ -14,7 +14,7 @@ use Rattle.lists.proofs.Count.{count-le}
 use Rattle.lists.proofs.Maps.{image-suc}
 use Rattle.lists.proofs.Parts.{rest-at, drop-take}
 use Rattle.changes.specs.inner.Toggle.{toggled}
-use Rattle.changes.specs.inner.Merge.{entriesOf, sideWords, listOn, SideOf, Fitting, Mergeable}
+use Rattle.changes.specs.inner.Merge.{entriesOf, sideWords, SideOf, Fitting, Mergeable}
 use Rattle.changes.proofs.Toggles.{ascending-toggled, all-toggled}
 use Rattle.changes.proofs.Merging.{entries-ascend}
 use Rattle.changes.proofs.Parting.{below, entriesBelow, below-none, length-below, entries-next, below-next, ahead-of, entries-from, entries-all, entries-toggled}

@@ -7,9 +7,10 @@ ghost use Rattle.graph.specs.Graph.{entryEnd, forward, backward, key};
 ghost use Rattle.changes.specs.File.{changeCount, changedEdge};
 ghost use Rattle.changes.specs.inner.Reading.{Sized};
 ghost use Rattle.changes.specs.inner.Toggle.{toggled};
-ghost use Rattle.changes.specs.inner.Merge.{entriesOf, sideKeys, Ordered, entryAt, nextEntry, Mergeable, sideWords, listOn, keysOn, Within, SideOf, Fitting};
+ghost use Rattle.changes.specs.inner.Merge.{entriesOf, sideKeys, Ordered, entryAt, nextEntry, Mergeable, sideWords, keysOn, SideOf, Fitting};
 use crate::file;
 use graph::Graph;
+use store::neighbours;
 
 // How many words were written, and the number of the next change.
 pub struct Merged {
@@ -106,17 +107,6 @@ fn merge_list(
         len: len + rest,
         next: at,
     }
-}
-
-// The entries of a vertex below n on a side: a part of the store.
-fn neighbours(old: &[u32], n: usize, side: usize, v: usize) -> &[u32]
-    requires { ⌜ Within (now old) n side v ⌝ }
-    ensures { λ r. ⌜ now r ≡ listOn (now (old .entry)) n side v ⌝ }
-{
-    let entries = side + n + 1;
-    let from = entries + old[side + v] as usize;
-    let end = entries + old[side + v + 1] as usize;
-    &old[from..end]
 }
 
 // A side of the old store, which begins at a word, merged with the changes: the offsets and the entries of the new side.

@@ -2,11 +2,12 @@
 use mathlib.Core.Path.{_≡_}
 use mathlib.Core.Bool.{Bool, true, cond, not, _&&_}
 use mathlib.Core.List.{List, _++_, map, flatMap}
-use Prim.Native.Nat.{ℕ, suc, _+_, _-_, _*_, _/_, _%_, _≤_, _<_}
+use Prim.Native.Nat.{ℕ, suc, _+_, _*_, _/_, _%_, _≤_, _<_}
 use lib.Dec.{eqb, ltb}
-use lib.ListN.{length, getD, take, drop}
+use lib.ListN.{length, getD, drop}
 use Rattle.lists.specs.Lists.{range, all, keep, count, ascending}
 use Rattle.graph.specs.Graph.{entryEnd, forward, backward, key}
+use Rattle.store.specs.inner.Side.{listOn, Within}
 use Rattle.changes.specs.File.{changeCount, changedEdge}
 use Rattle.changes.specs.inner.Reading.{Sized}
 use Rattle.changes.specs.inner.Toggle.{toggled}
@@ -54,17 +55,7 @@ pub record Mergeable (xs cs : List ℕ) (v from room : ℕ) : Type 0 where
 unfoldable pub sideWords : ℕ → List ℕ → List ℕ
 sideWords n ks = map (λ (v : ℕ). count (λ (k : ℕ). ltb k (v * entryEnd)) ks) (range (suc n)) ++ map (λ (k : ℕ). k % entryEnd) ks
 
--- The list of vertex v on the side of a store that begins at a word.
-abbrev pub listOn : List ℕ → ℕ → ℕ → ℕ → List ℕ
-listOn old n side v = take (getD old (side + v + 1) 0 - getD old (side + v) 0) (drop (side + n + 1 + getD old (side + v) 0) old)
-
--- That list lies in the store.
-pub record Within (old : List ℕ) (n side v : ℕ) : Type 0 where
-  pub vertex-in : v < n
-  pub rises : getD old (side + v) 0 ≤ getD old (side + v + 1) 0
-  pub ends : side + n + 1 + getD old (side + v + 1) 0 ≤ length old
-
--- The keys that its lists tell.
+-- The keys that the lists of a side tell.
 unfoldable pub keysOn : List ℕ → ℕ → ℕ → List ℕ
 keysOn old n side = flatMap (λ (v : ℕ). map (λ (e : ℕ). v * entryEnd + e) (listOn old n side v)) (range n)
 
