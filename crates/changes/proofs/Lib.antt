@@ -7,3 +7,4 @@ pub mod Merging
 pub mod Nexts
 pub mod Parting
 pub mod Siding
+pub mod Present

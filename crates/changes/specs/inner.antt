@@ -2,3 +2,4 @@
 pub mod Reading
 pub mod Toggle
 pub mod Merge
+pub mod Edits
