@@ -8,3 +8,4 @@ pub mod Nexts
 pub mod Parting
 pub mod Siding
 pub mod Present
+pub mod Sides
