@@ -1,0 +1,3 @@
+-- Laws of the backward side made from the forward one.
+pub mod Targets
+pub mod Owners
