@@ -1,3 +1,4 @@
 -- Laws of the backward side made from the forward one.
 pub mod Targets
 pub mod Owners
+pub mod Pairs
