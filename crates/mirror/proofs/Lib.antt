@@ -2,3 +2,5 @@
 pub mod Targets
 pub mod Owners
 pub mod Pairs
+pub mod Turning
+pub mod Turns
