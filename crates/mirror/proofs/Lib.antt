@@ -4,3 +4,4 @@ pub mod Owners
 pub mod Pairs
 pub mod Turning
 pub mod Turns
+pub mod Ends
