@@ -5,3 +5,4 @@ pub mod Pairs
 pub mod Turning
 pub mod Turns
 pub mod Ends
+pub mod Whole
