@@ -9,3 +9,4 @@ pub mod Parting
 pub mod Siding
 pub mod Present
 pub mod Sides
+pub mod Filled

@@ -3,3 +3,4 @@ pub mod Reading
 pub mod Toggle
 pub mod Merge
 pub mod Edits
+pub mod Fill
