@@ -13,7 +13,7 @@ use Rattle.lists.proofs.Tests.{not-false}
 use Rattle.lists.proofs.Faults.{refuse-zero}
 use Rattle.lists.proofs.Parts.{rest-at, drop-take}
 use Rattle.graph.specs.Graph.{Graph, forward, backward, key}
-use Rattle.graph.specs.Store.{graphIn, offsets, entries, storeOf, usedWords}
+use Rattle.graph.specs.Store.{graphIn, storeFault, offsets, entries, storeOf, usedWords}
 use Rattle.graph.proofs.WellFormed.{WellFormed, formed-well}
 use Rattle.graph.proofs.Keys.{sortedKeys, forward-keys}
 use Rattle.graph.proofs.Parts.{length-offsets, length-entries, store-shape}
@@ -21,7 +21,7 @@ use Rattle.load.proofs.Written.{tail-back}
 use Rattle.store.specs.inner.Side.{sideIn, verticesIn, edgesIn}
 use Rattle.store.proofs.Accepted.{graph-formed, store-vertices, store-length}
 use Rattle.mirror.specs.inner.Mirror.{ForwardSide, Mirrorable, Mirrored}
-use Rattle.changes.specs.File.{changeCount, changesOf}
+use Rattle.changes.specs.File.{changeCount, changesOf, changeFault}
 use Rattle.changes.specs.Edit.{changeKey, keysOf, applies, applyChanges, editFault, editedGraph}
 use Rattle.changes.specs.inner.Toggle.{toggled}
 use Rattle.changes.specs.inner.Merge.{sideKeys, Ordered, sideWords, keysOn, SideOf, Fitting}
@@ -30,9 +30,19 @@ use Rattle.changes.proofs.EditedGraph.{Applied, applied-keys, applied-f
 use Rattle.changes.proofs.Present.{file-sized, changes-fit, changes-ascend}
 use Rattle.changes.proofs.Sides.{side-of, side-keys, side-words, forward-changes, forward-ascend, forward-bounded}
 
+-- Changes that are not refused can be applied.
+pub applied-parts : (old : List ℕ) (n : ℕ) (s : List ℕ) → storeFault old ≡ 0 → n ≡ verticesIn old → changeFault n s ≡ 0
+    → editFault (graphIn old) (changesOf s) ≡ 0 → Applied (graphIn old) (changesOf s)
+unfolding editFault
+applied-parts old n s a v b c =
+    record {
+      formed = graph-formed old a;
+      changes-fit = rw (v ∙ store-vertices old a) at (changes-fit n s b);
+      changes-ascend = changes-ascend n s b;
+      all-apply = not-false _ (refuse-zero 27 _ c);
+    }
+
 module _ {old : List ℕ} {n : ℕ} {s : List ℕ} {k : ℕ} (h : Accepted old n s k) where
-  abbrev new : Graph
-  new = editedGraph old s
 
   n-is : n ≡ graphIn old .vertices
   n-is = h .vertices ∙ store-vertices old (h .store)
@@ -40,18 +50,8 @@ module _ {old : List ℕ} {n : ℕ} {s : List ℕ} {k : ℕ} (h : Accepted old n
   pub low-vertices : n < 65536
   low-vertices = rw n-is (graph-formed old (h .store) .few-vertices)
 
-  all-apply : all (applies (keysOf (graphIn old))) (changesOf s) ≡ true
-  unfolding editFault
-  all-apply = not-false _ (refuse-zero 27 _ (h .edits))
-
   pub applied : Applied (graphIn old) (changesOf s)
-  applied =
-      record {
-        formed = graph-formed old (h .store);
-        changes-fit = rw n-is at (changes-fit n s (h .file));
-        changes-ascend = changes-ascend n s (h .file);
-        all-apply = all-apply;
-      }
+  applied = applied-parts old n s (h .store) (h .vertices) (h .file) (h .edits)
 
   pub new-formed : WellFormed (editedGraph old s)
   new-formed = applied-formed (graphIn old) (changesOf s) applied (h .few)

@@ -10,3 +10,4 @@ pub mod Siding
 pub mod Present
 pub mod Sides
 pub mod Filled
+pub mod Answers
