@@ -196,3 +196,15 @@ module _ (old s store : List ℕ) {r : ℕ} (e : r ≡ applyFault old s (length 
   pub store-refused : store ≡ changedStore old s store
   unfolding changedStore
   store-refused = rw (← e, ne-eqb r 0 refused)
+
+-- ---- in words of the edited graph
+
+pub size-fits : (old s : List ℕ) (room : ℕ) → applyFault old s room ≡ 0 → storeSize (editedGraph old s) ≤ room
+unfolding applyFault
+size-fits old s room z =
+    ltb-false room (storeSize (editedGraph old s)) (refuse-zero 4 _ (first-head _ _ (first-tail _ _ (first-tail _ _ (first-tail _ _ (first-tail _ _ z))))))
+
+pub store-is : (old s store : List ℕ) → applyFault old s (length store) ≡ 0
+    → storeOf (editedGraph old s) ++ drop (storeSize (editedGraph old s)) store ≡ changedStore old s store
+unfolding changedStore
+store-is old s store z = rw (z)

@@ -11,3 +11,4 @@ pub mod Present
 pub mod Sides
 pub mod Filled
 pub mod Answers
+pub mod Loaded

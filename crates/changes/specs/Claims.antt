@@ -1,0 +1,22 @@
+-- What a reader wants of applied changes: the new store is as loaded. Assumes nothing.
+use mathlib.Core.Path.{_≡_}
+use mathlib.Core.Bool.{true}
+use mathlib.Core.List.{List}
+use Prim.Native.Nat.{ℕ}
+use lib.Dec.{ltb}
+use lib.ListN.{length}
+use Rattle.lists.specs.Lists.{all}
+use Rattle.graph.specs.File.{graphOf}
+use Rattle.graph.specs.Store.{loadFault, loadStore, graphIn, storeFault}
+use Rattle.changes.specs.Edit.{editedGraph, changedStore}
+
+-- 'As by loading the edited graph': there is a file, of bytes, of the edited graph; Load accepts it and leaves the same words. So the new store
+-- is not refused, and it spells the edited graph.
+pub record LoadsEdited (old s store : List ℕ) : Type 0 where
+  pub file : List ℕ
+  pub bytes : all (λ (b : ℕ). ltb b 256) file ≡ true
+  pub its-graph : graphOf file ≡ editedGraph old s
+  pub accepted : loadFault file (length store) ≡ 0
+  pub words : changedStore old s store ≡ loadStore file store
+  pub not-refused : storeFault (changedStore old s store) ≡ 0
+  pub spells : graphIn (changedStore old s store) ≡ editedGraph old s
