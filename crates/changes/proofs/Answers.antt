@@ -109,7 +109,9 @@ module _ {old : List ℕ} {n m : ℕ} {s : List ℕ} {k : ℕ} (t : Tested old n
         arith,
         applied-size (graphIn old) (changesOf s) (applied-parts old n s (t .store) (t .vertices) (t .file) (t .edits)),
         length-image (changeAt s) (changeCount s),
-        t .changes, t .edges, store-edges old (t .store),
+        t .changes,
+        t .edges,
+        store-edges old (t .store),
         count-map (λ (c : Change). c .adds) (changeAt s) (range (changeCount s)),
         ap (λ (j : ℕ). count (addsIn s) (range j)) (t .changes),
       )

@@ -190,13 +190,17 @@ module _ (ks : List ℕ) (rising : ascending ks ≡ true) where
           → length (toggle y rest) + suc (length cs) ≡ length ks + 2 * (bit b + additions cs)
       go ih true i =
           omega (
-            arith, length-count rest, length-count (toggle y rest),
+            arith,
+            length-count rest,
+            length-count (toggle y rest),
             toggle-absent (λ (k : ℕ). true) y rest (here ∙ none-count (λ (k : ℕ). eqb k y) ks (not-true _ i)),
           )
       go ih false i =
           let present : 0 < count (λ (k : ℕ). eqb k y) ks = any-count (λ (k : ℕ). eqb k y) ks i in
           omega (
-            arith, length-count rest, length-count (toggle y rest),
+            arith,
+            length-count rest,
+            length-count (toggle y rest),
             toggle-present (λ (k : ℕ). true) y rest (ascending-toggled ks (map changeKey cs) rising) (rw here present),
           )
 

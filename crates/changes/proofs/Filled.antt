@@ -43,7 +43,6 @@ applied-parts old n s a v b c =
     }
 
 module _ {old : List ℕ} {n : ℕ} {s : List ℕ} {k : ℕ} (h : Accepted old n s k) where
-
   n-is : n ≡ graphIn old .vertices
   n-is = h .vertices ∙ store-vertices old (h .store)
 

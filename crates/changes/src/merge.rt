@@ -60,7 +60,11 @@ fn next(file: &[u8], order: &[u32], k: usize, v: usize, j: usize) -> u32
 fn word(list: &[u32], i: usize) -> u32
     ensures { λ r. ⌜ r ≡ getD (now (list .entry)) i entryEnd ⌝ }
 {
-    if i < list.len() { list[i] } else { Graph::ENTRY_END }
+    if i < list.len() {
+        list[i]
+    } else {
+        Graph::ENTRY_END
+    }
 }
 
 // A vertex's list merged with its changes, of which `from` is the first. The words after its last change are copied at once.
