@@ -12,3 +12,4 @@ pub mod Sides
 pub mod Filled
 pub mod Answers
 pub mod Loaded
+pub mod Reversed

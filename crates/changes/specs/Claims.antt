@@ -1,14 +1,16 @@
 -- What a reader wants of applied changes: the new store is as loaded. Assumes nothing.
 use mathlib.Core.Path.{_≡_}
-use mathlib.Core.Bool.{true}
-use mathlib.Core.List.{List}
+use mathlib.Core.Bool.{true, not}
+use mathlib.Core.List.{List, map}
 use Prim.Native.Nat.{ℕ}
 use lib.Dec.{ltb}
 use lib.ListN.{length}
 use Rattle.lists.specs.Lists.{all}
 use Rattle.graph.specs.File.{graphOf}
-use Rattle.graph.specs.Store.{loadFault, loadStore, graphIn, storeFault}
-use Rattle.changes.specs.Edit.{editedGraph, changedStore}
+use Rattle.lists.specs.Refusal.{refuse}
+use Rattle.graph.specs.Store.{storeOf, storeSize, loadFault, loadStore, graphIn, storeFault}
+use Rattle.changes.specs.File.{Change, changesOf, changeFault}
+use Rattle.changes.specs.Edit.{editedGraph, applyFault, changedStore}
 
 -- 'As by loading the edited graph': there is a file, of bytes, of the edited graph; Load accepts it and leaves the same words. So the new store
 -- is not refused, and it spells the edited graph.
@@ -20,3 +22,7 @@ pub record LoadsEdited (old s store : List ℕ) : Type 0 where
   pub words : changedStore old s store ≡ loadStore file store
   pub not-refused : storeFault (changedStore old s store) ≡ 0
   pub spells : graphIn (changedStore old s store) ≡ editedGraph old s
+
+-- The reverse of a change: what was added is taken away, and the other way round.
+abbrev pub turned : Change → Change
+turned c = record { adds = not (c .adds); edge = c .edge }
