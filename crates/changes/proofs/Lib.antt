@@ -13,3 +13,4 @@ pub mod Filled
 pub mod Answers
 pub mod Loaded
 pub mod Reversed
+pub mod Reverse
