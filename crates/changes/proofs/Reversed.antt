@@ -84,17 +84,21 @@ module _ (ks cs : List ℕ) (up : ascending ks ≡ true) (rise : ascending cs �
       go zero e =
           omega (
             arith,
-            toggled-flips k (toggled ks cs) cs (ascending-toggled ks cs up), flips-none cs k (count (λ (z : ℕ). eqb z k) (toggled ks cs)) e,
-            toggled-flips k ks cs up, flips-none cs k (count (λ (z : ℕ). eqb z k) ks) e,
+            toggled-flips k (toggled ks cs) cs (ascending-toggled ks cs up),
+            flips-none cs k (count (λ (z : ℕ). eqb z k) (toggled ks cs)) e,
+            toggled-flips k ks cs up,
+            flips-none cs k (count (λ (z : ℕ). eqb z k) ks) e,
           )
       go (suc n) e =
           let one : count (λ (y : ℕ). eqb y k) cs ≡ 1 = omega (arith, ascending-once cs rise k) in
           omega (
             arith,
-            ascending-once ks up k, ascending-once (toggled ks cs) (ascending-toggled ks cs up) k,
+            ascending-once ks up k,
+            ascending-once (toggled ks cs) (ascending-toggled ks cs up) k,
             toggled-flips k (toggled ks cs) cs (ascending-toggled ks cs up),
             flips-once cs k (count (λ (z : ℕ). eqb z k) (toggled ks cs)) (ascending-once (toggled ks cs) (ascending-toggled ks cs up) k) one,
-            toggled-flips k ks cs up, flips-once cs k (count (λ (z : ℕ). eqb z k) ks) (ascending-once ks up k) one,
+            toggled-flips k ks cs up,
+            flips-once cs k (count (λ (z : ℕ). eqb z k) ks) (ascending-once ks up k) one,
           )
 
   pub toggled-twice : toggled (toggled ks cs) cs ≡ ks
