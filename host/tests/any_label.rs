@@ -2,7 +2,7 @@
 mod judge;
 
 use judge::calls::Ran;
-use judge::cases::{case, run, Worked};
+use judge::cases::{case, hold, run, Worked};
 use judge::graph::Graph;
 use judge::matcher::Matcher;
 use judge::plan::{self, Operator};
@@ -102,13 +102,8 @@ fn worked() -> Vec<Worked> {
 }
 
 #[test]
-fn worked_cases_by_the_judge() {
-    worked().iter().for_each(Worked::hold_judge);
-}
-
-#[test]
-fn worked_cases_by_the_library() {
-    each(0..1, |r| worked().iter().for_each(|case| case.hold_library(r)));
+fn worked_cases() {
+    hold(&worked());
 }
 
 /// Pairs of runs by one plan, which answer alike but for the cost: that of the second is not below that of the first. Answers how

@@ -1,11 +1,10 @@
 //! Different query vertices take different data vertices: cases worked by hand. Each is run in every scratch up to its need.
 mod judge;
 
-use judge::cases::{case, Worked};
+use judge::cases::{case, hold, Worked};
 use judge::graph::{Edge, Graph};
 use judge::plan::Operator;
 use judge::query::Query;
-use judge::random::each;
 use judge::worked::graph;
 use Operator::{Extend, Join, Scan};
 
@@ -232,11 +231,6 @@ fn worked() -> Vec<Worked> {
 }
 
 #[test]
-fn worked_cases_by_the_judge() {
-    worked().iter().for_each(Worked::hold_judge);
-}
-
-#[test]
-fn worked_cases_by_the_library() {
-    each(0..1, |r| worked().iter().for_each(|case| case.hold_library(r)));
+fn worked_cases() {
+    hold(&worked());
 }

@@ -1,7 +1,7 @@
 //! Pairs of query vertices, of which the first is to have the lower number: cases worked by hand, and runs with pairs beside runs without.
 mod judge;
 
-use judge::cases::{case, run, Worked};
+use judge::cases::{case, hold, run, Worked};
 use judge::graph::Graph;
 use judge::matcher::Matcher;
 use judge::plan::{self, Operator};
@@ -168,13 +168,8 @@ fn worked() -> Vec<Worked> {
 }
 
 #[test]
-fn worked_cases_by_the_judge() {
-    worked().iter().for_each(Worked::hold_judge);
-}
-
-#[test]
-fn worked_cases_by_the_library() {
-    each(0..1, |r| worked().iter().for_each(|case| case.hold_library(r)));
+fn worked_cases() {
+    hold(&worked());
 }
 
 /// Runs of a query by one plan with each of two sets of pairs in place of its own, in buffers for the rows without any. None where there

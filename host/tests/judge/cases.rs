@@ -4,7 +4,7 @@ use super::graph::Graph;
 use super::matcher::Matcher;
 use super::plan::{self, Operator};
 use super::query::Query;
-use super::random::Random;
+use super::random::{each, Random};
 use super::{in_words, rules};
 
 pub struct Worked {
@@ -78,4 +78,10 @@ fn accepted(answer: rules::Answer) -> Ran {
 pub fn run(r: &Random, g: &Graph, q: &Query, p: &[Operator], cache: bool, scratch: usize, list: usize) -> Ran {
     let input = Input { store: &g.store(), query: &q.file(), plan: &plan::file(p), cache };
     calls::run(r, &input, scratch, list)
+}
+
+/// Holds the judge and the library to every case.
+pub fn hold(cases: &[Worked]) {
+    cases.iter().for_each(Worked::hold_judge);
+    each(0..1, |r| cases.iter().for_each(|case| case.hold_library(r)));
 }

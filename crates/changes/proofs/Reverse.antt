@@ -1,0 +1,96 @@
+-- Applying a change file and then its reverse gives the old words back. Assumes nothing.
+use mathlib.Core.Path.{_≡_, refl, sym, _∙_, ap, ap₂}
+use mathlib.Core.Bool.{Bool, true, not}
+use mathlib.Core.List.{List, [], _∷_, _++_, map, map-map, map-id}
+use Prim.Native.Nat.{ℕ, _≤_, _<_}
+use native.Mathlib.Omega.{arith}
+use lib.Dec.{ltb}
+use lib.ListN.{length, take, drop}
+use lib.Seq.{take-at}
+use borrow.Author.Tests.{le-ltb}
+use Rattle.lists.specs.Lists.{all}
+use Rattle.lists.specs.Refusal.{refuse, first}
+use Rattle.lists.proofs.Faults.{first-cons, first-one, zero-refuse}
+use Rattle.lists.proofs.Maps.{map-under}
+use Rattle.graph.specs.Graph.{Edge, Graph, forward, key}
+use Rattle.graph.specs.Store.{graphIn, storeFault, storeOf, storeSize}
+use Rattle.graph.proofs.WellFormed.{WellFormed, fitting}
+use Rattle.graph.proofs.Parts.{length-store}
+use Rattle.graph.proofs.Loads.{store-formed}
+use Rattle.store.proofs.Accepted.{graph-formed}
+use Rattle.changes.specs.File.{Change, changesOf, changeFault}
+use Rattle.changes.specs.Edit.{changeKey, keyEdge, keysOf, editedKeys, applies, applyChanges, editFault, editedGraph, applyFault, changedStore}
+use Rattle.changes.specs.Claims.{LoadsEdited, turned, Reverses}
+use Rattle.changes.proofs.EditedGraph.{Applied, edge-key, key-edge, applied-keys}
+use Rattle.changes.proofs.Filled.{applied}
+use Rattle.changes.proofs.Answers.{accepted-all, store-is}
+use Rattle.changes.proofs.Loaded.{loads-edited}
+use Rattle.changes.proofs.Reversed.{turned-apply, edited-back}
+
+module _ (old s store back : List ℕ) (z : applyFault old s (length store) ≡ 0) (turns : changesOf back ≡ map turned (changesOf s))
+    (fits : changeFault (graphIn old .vertices) back ≡ 0) where
+  can : Applied (graphIn old) (changesOf s)
+  can = applied (accepted-all old s (length store) z refl refl refl)
+
+  loaded : LoadsEdited old s store
+  loaded = loads-edited old s store z
+
+  new-keys : keysOf (editedGraph old s) ≡ editedKeys (keysOf (graphIn old)) (changesOf s)
+  unfolding applyChanges
+  new-keys =
+      map-map (key forward) keyEdge (editedKeys (keysOf (graphIn old)) (changesOf s)) ∙ simp edge-key (map-id (editedKeys (keysOf (graphIn old)) (changesOf s)))
+
+  edges-back : map keyEdge (editedKeys (keysOf (editedGraph old s)) (map turned (changesOf s))) ≡ graphIn old .edges
+  edges-back =
+      ap (λ (ks : List ℕ). map keyEdge (editedKeys ks (map turned (changesOf s)))) new-keys
+      ∙ ap (map keyEdge) (edited-back (keysOf (graphIn old)) (changesOf s) (can .formed .edges-ascend) (can .changes-ascend) (can .all-apply))
+      ∙ map-map keyEdge (key forward) (graphIn old .edges)
+      ∙ map-under (fitting (graphIn old .vertices)) (λ (e : Edge). keyEdge (key forward e)) (λ (e : Edge). e) (graphIn old .edges) (can .formed .edges-fit)
+      (key-edge (graphIn old) (can .formed))
+      ∙ map-id (graphIn old .edges)
+
+  graph-back : applyChanges (editedGraph old s) (map turned (changesOf s)) ≡ graphIn old
+  unfolding applyChanges
+  graph-back = λ i. record { vertices = graphIn old .vertices; labels = graphIn old .labels; days = graphIn old .days; edges = edges-back i }
+
+  edited-is : editedGraph (changedStore old s store) back ≡ graphIn old
+  edited-is = ap₂ applyChanges (loaded .spells) turns ∙ graph-back
+
+  all-apply : all (applies (keysOf (editedGraph old s))) (map turned (changesOf s)) ≡ true
+  all-apply =
+      ap (λ (ks : List ℕ). all (applies ks) (map turned (changesOf s))) (applied-keys (graphIn old) (changesOf s) can)
+      ∙ turned-apply (keysOf (graphIn old)) (changesOf s) (can .formed .edges-ascend) (can .changes-ascend) (can .all-apply)
+
+  edits-none : editFault (graphIn (changedStore old s store)) (changesOf back) ≡ 0
+  unfolding editFault
+  edits-none = ap₂ (λ (g : Graph) (cs : List Change). refuse 28 (not (all (applies (keysOf g)) cs))) (loaded .spells) turns ∙ rw all-apply
+
+  vertices-kept : changeFault (graphIn (changedStore old s store) .vertices) back ≡ 0
+  unfolding applyChanges
+  vertices-kept = ap (λ (g : Graph). changeFault (g .vertices) back) (loaded .spells) ∙ fits
+
+  few : refuse 29 (ltb 1048575 (length (editedGraph (changedStore old s store) back .edges))) ≡ 0
+  few =
+      ap (λ (g : Graph). refuse 29 (ltb 1048575 (length (g .edges)))) edited-is
+      ∙ zero-refuse 29 (ltb 1048575 (length (graphIn old .edges))) (le-ltb 1048575 (length (graphIn old .edges)) (omega (arith, can .formed .few-edges)))
+
+  fault-is : (room : ℕ) → applyFault (changedStore old s store) back room ≡ refuse 5 (ltb room (storeSize (graphIn old)))
+  unfolding applyFault
+  fault-is room =
+      first-cons _ _ (loaded .not-refused) ∙ first-cons _ _ vertices-kept ∙ first-cons _ _ edits-none ∙ first-cons _ _ few ∙ first-one _
+      ∙ ap (λ (g : Graph). refuse 5 (ltb room (storeSize g))) edited-is
+
+  pub reverses : Reverses old s store back
+  reverses =
+      record {
+        its-graph = edited-is;
+        refused = fault-is;
+        words =
+            λ last l.
+            let size : ℕ = storeSize (graphIn old) in
+            ap (take size)
+            (sym (store-is (changedStore old s store) back last (fault-is (length last) ∙ zero-refuse 5 (ltb (length last) size) (le-ltb (length last) size l)))
+            ∙ ap (λ (g : Graph). storeOf g ++ drop (storeSize g) last) edited-is)
+            ∙ take-at (storeOf (graphIn old)) (drop size last) size (length-store (graphIn old) (can .formed .described))
+            ∙ sym (store-formed old (accepted-all old s (length store) z refl refl refl .store) .1);
+      }

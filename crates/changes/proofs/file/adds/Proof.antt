@@ -1,0 +1,23 @@
+-- `changes::file::adds` meets its contract. Assumes nothing.
+use mathlib.Core.Path.{_∙_}
+use native.Mathlib.Omega.{arith}
+use borrow.Author.Needs.{needs}
+use Rattle.packed.proofs.Laws.{field-lt}
+use Rattle.changes.proofs.Reading.{adds-field}
+use Rattle.changes.proofs.file.adds.Statement.{statement}
+use Rattle.changes.proofs.file.adds.Tie as tie
+
+mul-field : tie.Need-mul-field
+mul-field c = search needs
+
+add-field : tie.Need-add-field
+add-field c = search needs
+
+field-requires : tie.Need-field-requires
+field-requires c κs = search needs
+
+returns : tie.Need-returns
+returns c = (adds-field _ _ (c .field .ensures), rw (c .field .ensures) (field-lt _ _ 1))
+
+pub adds-spec : {M : Type 1} → statement M
+adds-spec = tie.close (tie.spec mul-field add-field field-requires returns)

@@ -1,0 +1,23 @@
+-- `changes::file::forward_entry` meets its contract. Assumes nothing.
+use mathlib.Core.Path.{_∙_}
+use native.Mathlib.Omega.{arith}
+use borrow.Author.Needs.{needs}
+use Rattle.packed.proofs.Laws.{field-lt}
+use Rattle.changes.proofs.Reading.{entry-field}
+use Rattle.changes.proofs.file.forward_entry.Statement.{statement}
+use Rattle.changes.proofs.file.forward_entry.Tie as tie
+
+mul-field : tie.Need-mul-field
+mul-field c = search needs
+
+add-field : tie.Need-add-field
+add-field c = search needs
+
+field-requires : tie.Need-field-requires
+field-requires c κs = search needs
+
+returns : tie.Need-returns
+returns c = (entry-field _ _ (c .field .ensures), rw (c .field .ensures) (field-lt _ _ 24))
+
+pub forward-entry-spec : {M : Type 1} → statement M
+forward-entry-spec = tie.close (tie.spec mul-field add-field field-requires returns)

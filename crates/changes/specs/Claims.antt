@@ -1,0 +1,36 @@
+-- What a reader wants of applied changes: the new store is as loaded. Assumes nothing.
+use mathlib.Core.Path.{_≡_}
+use mathlib.Core.Bool.{true, not}
+use mathlib.Core.List.{List}
+use Prim.Native.Nat.{ℕ, _≤_}
+use lib.Dec.{ltb}
+use lib.ListN.{length, take}
+use Rattle.lists.specs.Lists.{all}
+use Rattle.graph.specs.File.{graphOf}
+use Rattle.lists.specs.Refusal.{refuse}
+use Rattle.graph.specs.Store.{storeSize, loadFault, loadStore, graphIn, storeFault}
+use Rattle.changes.specs.File.{Change}
+use Rattle.changes.specs.Edit.{editedGraph, applyFault, changedStore}
+
+-- 'As by loading the edited graph': there is a file, of bytes, of the edited graph; Load accepts it and leaves the same words. So the new store
+-- is not refused, and it spells the edited graph.
+pub record LoadsEdited (old s store : List ℕ) : Type 0 where
+  pub file : List ℕ
+  pub bytes : all (λ (b : ℕ). ltb b 256) file ≡ true
+  pub its-graph : graphOf file ≡ editedGraph old s
+  pub accepted : loadFault file (length store) ≡ 0
+  pub words : changedStore old s store ≡ loadStore file store
+  pub not-refused : storeFault (changedStore old s store) ≡ 0
+  pub spells : graphIn (changedStore old s store) ≡ editedGraph old s
+
+-- The reverse of a change: what was added is taken away, and the other way round.
+abbrev pub turned : Change → Change
+turned c = record { adds = not (c .adds); edge = c .edge }
+
+-- 'Applying a change file and then its reverse gives the old words back': of a file that holds the reverse changes, nothing is refused but a store that
+-- is too small, and the words are the old store's.
+pub record Reverses (old s store back : List ℕ) : Type 0 where
+  pub its-graph : editedGraph (changedStore old s store) back ≡ graphIn old
+  pub refused : (room : ℕ) → applyFault (changedStore old s store) back room ≡ refuse 5 (ltb room (storeSize (graphIn old)))
+  pub words : (last : List ℕ) → storeSize (graphIn old) ≤ length last
+      → take (storeSize (graphIn old)) (changedStore (changedStore old s store) back last) ≡ take (storeSize (graphIn old)) old
