@@ -13,3 +13,7 @@ pub mod Order
 pub mod Spelt
 pub mod Tested
 pub mod Decided
+pub mod Begun
+pub mod Blocks
+pub mod Few
+pub mod Mirrors

@@ -40,7 +40,7 @@ module _ (m : ℕ) where
   steps-rise x (y ∷ ys) h e =
       and-both (leb x y) (risesTo m y ys) (le-leb x y (h 0 (omega arith))) (steps-rise y ys (λ v l. h (suc v) (omega arith)) e)
 
-  fit-rising : (n : ℕ) (xs : List ℕ) → length xs ≡ suc n → offsetsFit m xs ≡ true → Rising m n (λ (v : ℕ). getD xs v 0)
+  pub fit-rising : (n : ℕ) (xs : List ℕ) → length xs ≡ suc n → offsetsFit m xs ≡ true → Rising m n (λ (v : ℕ). getD xs v 0)
   unfolding offsetsFit
   fit-rising n [] l e = clash e refl
   fit-rising n (x ∷ xs) l e =

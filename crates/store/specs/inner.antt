@@ -3,3 +3,4 @@ pub mod Side
 pub mod Portion
 pub mod Check
 pub mod Order
+pub mod Begun

@@ -1,5 +1,6 @@
 // Refusal 19: whether some accepted graph file loads to a store. Each function answers 19 or 0.
 use crate::neighbours;
+use crate::short::short_lists_fault;
 use graph::Graph;
 use search::find;
 ghost use mathlib.Core.Path.{_≡_};
@@ -13,6 +14,9 @@ ghost use Rattle.graph.specs.Store.{storeFault};
 ghost use Rattle.store.specs.inner.Side.{Within, verticesIn};
 ghost use Rattle.store.specs.inner.Order.{fallsFrom, startFalls, faultsOf};
 ghost use Rattle.store.specs.inner.Check.{unless, countsFit, labelsFit, daysFit, member, offsetsFit, offsetsOn, entryFits, listFits, sideFits, sideGood, GoodSide, listMirrored, sideMirrored, Counted};
+
+// Where there are no more than so many entries a vertex, lists are short.
+const SHORT: usize = 4;
 
 // 19 where a word is above a limit, else 0.
 fn words_fault(part: &[u32], limit: u32) -> u32
@@ -187,7 +191,7 @@ fn wide(byte: u8) -> usize
 // 19 where the ascending list of a vertex lacks a word, else 0, by the vertex's guess of where the word stands: the place after the last word guessed, up to a
 // multiple of 256. Lists are walked by ascending vertex, so that of one label the next mirror in a list is the next word. A guess that
 // fails is left, if a word stands there: that may be of another label, and come later. Any guess will do.
-fn guessed_fault(
+pub fn guessed_fault(
     list: &[u32],
     x: u32,
     guesses: &mut [u8; Graph::MAX_VERTICES],
@@ -280,6 +284,20 @@ fn mirrored_side_fault(store: &[u32], n: usize, side: usize, other: usize) -> u3
     mirrored_lists_fault(store, n, side, other, &mut guesses)
 }
 
+// The same of m entries, where lists are short.
+fn short_side_fault(store: &[u32], n: usize, m: u32, side: usize, other: usize) -> u32
+    requires { ⌜ (side + n + 1 + m ≤ length (now store)) × (offsetsFit m (offsetsOn (now store) n side) ≡ true) ⌝ }
+    requires { ⌜ GoodSide (now store) n other ⌝ }
+    requires { ⌜ (n < suc maxGraphVertices) × (m < suc maxGraphEdges) ⌝ }
+    ensures { λ r. ⌜ r ≡ unless (sideFits (now (store .entry)) n side && sideMirrored (now (store .entry)) n side other) ⌝ }
+{
+    let fault = lists_fault(store, n, m, side);
+    if fault != 0 {
+        return fault;
+    }
+    short_lists_fault(store, n, m as usize, side, other)
+}
+
 // 19 unless the counts of a store are within their limits and its words are there; else 0.
 fn counts_fault(store: &[u32]) -> u32
     ensures { λ r. ⌜ r ≡ unless (countsFit (now (store .entry))) ⌝ }
@@ -327,6 +345,9 @@ fn sides_fault(store: &[u32], n: usize, m: u32, forward: usize, backward: usize)
         return back;
     }
     // Both sides have m entries, told apart: where each forward one has its mirror, no backward one is left over.
+    if m as usize <= SHORT * n {
+        return short_side_fault(store, n, m, forward, backward);
+    }
     mirrored_side_fault(store, n, forward, backward)
 }
 
