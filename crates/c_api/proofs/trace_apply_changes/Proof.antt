@@ -1,0 +1,18 @@
+-- `c_api::trace_apply_changes` meets its contract: its numbers are the answer of Apply changes. Assumes nothing.
+use mathlib.Core.Path.{sym}
+use borrow.Author.Needs.{needs}
+use Rattle.c_api.proofs.trace_apply_changes.Statement.{statement}
+use Rattle.c_api.proofs.trace_apply_changes.Tie as tie
+
+apply-changes-requires : tie.Need-apply-changes-requires
+apply-changes-requires c κs = search needs
+
+same-length : tie.Need-same-length
+same-length c = search needs
+
+returns : tie.Need-returns
+returns c =
+    let e = c .before .before .apply-changes .ensures in (sym (e .0), e .1)
+
+pub trace-apply-changes-spec : {M : Type 1} → statement M
+trace-apply-changes-spec = tie.close (tie.spec apply-changes-requires same-length returns)
