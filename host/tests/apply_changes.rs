@@ -57,12 +57,12 @@ fn random_changes() {
     each(0..40_000, |r| {
         let (graph, changes) = random_case(r);
         let edited = changes::edited(&graph, &changes).unwrap();
-        let (k, m) = (changes.len(), graph.edges.len());
+        let (k, m) = (changes.len(), edited.edges.len());
         none += usize::from(k == 0);
         few += usize::from(k > 0 && k * k <= m);
         many += usize::from(k * k > m);
-        emptied += usize::from(m > 0 && edited.edges.is_empty());
-        same += usize::from(k > 0 && edited.edges.len() == m);
+        emptied += usize::from(k > 0 && m == 0);
+        same += usize::from(k > 0 && m == graph.edges.len());
         let extra = r.below(4);
         let old = [graph.store(), r.words(extra)].concat();
         let words = random_words(r, edited.store_size());
@@ -72,6 +72,25 @@ fn random_changes() {
     assert_eq!(seen[0] + seen[5], 40_000, "no other refusal");
     let kinds = [none, few, many, emptied, same];
     assert!(kinds.iter().all(|&count| count > 1_000), "each kind is met often: {kinds:?}");
+}
+
+/// As many changes as still are few, and one more: the square of their number is at most that of the edges, or just above it.
+#[test]
+fn as_many_as_are_few() {
+    let mut seen = [0; 2];
+    each(0..4_000, |r| {
+        let graph = Graph::random(r, 60);
+        let few = (0..).take_while(|k| k * k <= graph.edges.len()).count();
+        let taken = r.below(few + 1);
+        let changes = changes::random(r, &graph, taken, few + 1 - taken);
+        let edited = changes::edited(&graph, &changes).unwrap();
+        let (k, m) = (changes.len(), edited.edges.len());
+        if (k + 1) * (k + 1) > m && m > k.saturating_sub(1) * k.saturating_sub(1) {
+            seen[usize::from(k * k <= m)] += 1;
+            assert_eq!(compare(r, &graph.store(), &changes::file(&changes), edited.store_size()), 0);
+        }
+    });
+    assert!(seen.iter().all(|&count| count > 300), "{seen:?}");
 }
 
 /// Every list of changes of up to three edges over a graph of two vertices and two labels, whether they apply or not.
@@ -298,6 +317,10 @@ fn the_largest_counts() {
         let at = more.iter().position(|change| !change.adds).unwrap();
         more[at].adds = true;
         assert_eq!(compare(r, &old, &changes::file(&more), need), 28);
+        // As many as are few at most, and one more.
+        let spread: Vec<Change> = (0..1_024).map(|i| take(graph.edges[1_000 * i])).collect();
+        assert_eq!(compare(r, &old, &changes::file(&spread[..1_023]), need), 0);
+        assert_eq!(compare(r, &old, &changes::file(&spread), need), 0);
         // Every edge away.
         let all: Vec<Change> = graph.edges.iter().copied().map(take).collect();
         assert_eq!(compare(r, &old, &changes::file(&all), 4 + 4 * n), 0);

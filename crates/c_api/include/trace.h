@@ -14,15 +14,15 @@
  *
  * The files are packed bit by bit, most significant first, and zero bits fill the last byte:
  *
- *   graph  N (16 bits), M (20), N vertices of label (16), inspection day (16, days since 1 January 2000, 0 for none), M edges of
- *          source (16), label (8), target (16), strictly ascending;
- *   query  n (4 bits, 2 to 8), m (5, 1 to 24), n vertices of label (16, 0 fits all), first day (16), last day (16), both inclusive,
- *          m edges of from (3), to (3), label (8, 0 is any label), strictly ascending, a pair count (4 bits), pairs of two vertices
- *          (3 each), the first of which is to have the lower number, strictly ascending;
- *   plan   operator count (5 bits), then operators of a kind (2 bits): 0 scan of a query edge's index (5), 1 extend by a query
- *          vertex (3), 2 join;
- *   changes  a count (20 bits), then changes of a bit (1 adds the edge, 0 takes it away) and an edge of source (16), label (8),
- *          target (16), strictly ascending by edge.
+ *   graph    N (16 bits), M (20), N vertices of label (16), inspection day (16, days since 1 January 2000, 0 for none), M
+ *            edges of source (16), label (8), target (16), strictly ascending;
+ *   query    n (4 bits, 2 to 8), m (5, 1 to 24), n vertices of label (16, 0 fits all), first day (16), last day (16), both
+ *            inclusive, m edges of from (3), to (3), label (8, 0 is any label), strictly ascending, a pair count (4 bits),
+ *            pairs of two vertices (3 each), the first of which is to have the lower number, strictly ascending;
+ *   plan     operator count (5 bits), then operators of a kind (2 bits): 0 scan of a query edge's index (5), 1 extend by a
+ *            query vertex (3), 2 join;
+ *   changes  a count (20 bits), then for each a bit (1 adds an edge, 0 takes it away) and the edge of source (16), label (8),
+ *            target (16), strictly ascending by edge.
  */
 #ifndef TRACE_H
 #define TRACE_H
