@@ -9,6 +9,7 @@ pub mod EditedGraph
 pub mod Merging
 pub mod Nexts
 pub mod Parting
+pub mod Copying
 pub mod Siding
 pub mod Present
 pub mod Directions

@@ -1,11 +1,13 @@
 -- `changes::merge::merge_side` meets its contract. Assumes nothing.
 use native.Mathlib.Omega.{arith}
+use borrow.Author.Needs.{needs}
 use mathlib.Core.Path.{_∙_}
 use Prim.Native.Nat.{_-_}
+use native.Mathlib.Nat.{le-of-lt}
 use lib.ListN.{length-set}
-use borrow.Author.Needs.{needs}
 use Rattle.changes.specs.inner.Merge.{sideKeys, keysOn}
-use Rattle.changes.proofs.Siding.{Siding, siding-none, siding-fits, siding-low, siding-able, lent-long, siding-small, siding-next, siding-all, zero-fits, zero-first, zero-rest}
+use Rattle.changes.proofs.Nexts.{length-side}
+use Rattle.changes.proofs.Siding.{Siding, siding-none, next-above, next-inside, next-later, end-later, siding-copyable, siding-copied, siding-fits, siding-low, siding-able, lent-long, siding-small, siding-next, siding-all, zero-fits, zero-first, zero-rest}
 use Rattle.changes.proofs.merge.merge_side.Statement.{statement}
 use Rattle.changes.proofs.merge.merge_side.Tie as tie
 
@@ -19,63 +21,73 @@ slice-write-side : tie.Need-slice-write-side Inv-loop μ-loop
 slice-write-side c = omega (arith, c .before .before .before .before .pre .1 .1 .fits)
 
 loop-holds : tie.Need-loop-holds Inv-loop μ-loop
-loop-holds c =
-    siding-none _ _ _ _ (c .before .before .before .before .pre .0 .rising) (zero-fits (c .before .before .before .before .args .side .now) (c .before .before .before .before .pre .1 .1))
-    (zero-first (c .before .before .before .before .args .side .now) (c .before .before .before .before .pre .1 .1))
+loop-holds c = siding-none _ _ _ _ (c .before .before .before .before .pre .0 .rising) (zero-fits (c .before .before .before .before .args .side .now) (c .before .before .before .before .pre .1 .1)) (zero-first (c .before .before .before .before .args .side .now) (c .before .before .before .before .pre .1 .1))
+
+vertex-at-requires : tie.Need-vertex-at-requires Inv-loop μ-loop
+vertex-at-requires c κs = (c .before .before .before .before .before .before .pre .1 .0 .0, omega (arith, c .before .before .before .before .before .before .pre .1 .0 .1, c .loop-test .taken))
+
+copy-lists-requires : tie.Need-copy-lists-requires Inv-loop μ-loop
+copy-lists-requires c κs = (c .before .before .before .before .before .before .before .before .pre .0, siding-copyable _ _ _ _ (c .before .before .before .before .before .before .before .before .pre .0 .rising) (zero-fits (c .before .before .before .before .before .before .before .before .args .side .now) (c .before .before .before .before .before .before .before .before .pre .1 .1)) (c .before .before .before .loop .inv) (next-above _ _ _ _ (c .before .before .before .before .before .before .before .before .pre .0 .rising) (zero-fits (c .before .before .before .before .before .before .before .before .args .side .now) (c .before .before .before .before .before .before .before .before .pre .1 .1)) (c .before .before .before .loop .inv) (omega (arith, length-side _ _ (c .before .before .before .before .before .before .before .before .pre .1 .0 .0), c .before .before .before .before .before .before .before .before .pre .1 .0 .1, c .before .before .loop-test .taken)) (c .before .vertex-at .ensures)) (le-of-lt (next-inside _ _ _ _ (c .before .before .before .before .before .before .before .before .pre .0 .rising) (zero-fits (c .before .before .before .before .before .before .before .before .args .side .now) (c .before .before .before .before .before .before .before .before .pre .1 .1)) (c .before .before .before .loop .inv) (omega (arith, length-side _ _ (c .before .before .before .before .before .before .before .before .pre .1 .0 .0), c .before .before .before .before .before .before .before .before .pre .1 .0 .1, c .before .before .loop-test .taken)) (c .before .vertex-at .ensures))) (next-later _ _ _ _ (c .before .before .before .before .before .before .before .before .pre .0 .rising) (zero-fits (c .before .before .before .before .before .before .before .before .args .side .now) (c .before .before .before .before .before .before .before .before .pre .1 .1)) (c .before .before .before .loop .inv) (omega (arith, length-side _ _ (c .before .before .before .before .before .before .before .before .pre .1 .0 .0), c .before .before .before .before .before .before .before .before .pre .1 .0 .1, c .before .before .loop-test .taken)) (c .before .vertex-at .ensures)))
+
+add-len : tie.Need-add-len Inv-loop μ-loop
+add-len c = omega (arith, siding-low _ _ _ _ (c .before .before .before .before .before .before .before .before .before .before .before .pre .0 .rising) (zero-fits (c .before .before .before .before .before .before .before .before .before .before .before .args .side .now) (c .before .before .before .before .before .before .before .before .before .before .before .pre .1 .1)) (siding-copied _ _ _ _ (c .before .before .before .before .before .before .before .before .before .before .before .pre .0 .rising) (zero-fits (c .before .before .before .before .before .before .before .before .before .before .before .args .side .now) (c .before .before .before .before .before .before .before .before .before .before .before .pre .1 .1)) (c .before .before .before .before .before .before .loop .inv) (next-above _ _ _ _ (c .before .before .before .before .before .before .before .before .before .before .before .pre .0 .rising) (zero-fits (c .before .before .before .before .before .before .before .before .before .before .before .args .side .now) (c .before .before .before .before .before .before .before .before .before .before .before .pre .1 .1)) (c .before .before .before .before .before .before .loop .inv) (omega (arith, length-side _ _ (c .before .before .before .before .before .before .before .before .before .before .before .pre .1 .0 .0), c .before .before .before .before .before .before .before .before .before .before .before .pre .1 .0 .1, c .before .before .before .before .before .loop-test .taken)) (c .before .before .before .before .vertex-at .ensures)) (le-of-lt (next-inside _ _ _ _ (c .before .before .before .before .before .before .before .before .before .before .before .pre .0 .rising) (zero-fits (c .before .before .before .before .before .before .before .before .before .before .before .args .side .now) (c .before .before .before .before .before .before .before .before .before .before .before .pre .1 .1)) (c .before .before .before .before .before .before .loop .inv) (omega (arith, length-side _ _ (c .before .before .before .before .before .before .before .before .before .before .before .pre .1 .0 .0), c .before .before .before .before .before .before .before .before .before .before .before .pre .1 .0 .1, c .before .before .before .before .before .loop-test .taken)) (c .before .before .before .before .vertex-at .ensures))) (next-later _ _ _ _ (c .before .before .before .before .before .before .before .before .before .before .before .pre .0 .rising) (zero-fits (c .before .before .before .before .before .before .before .before .before .before .before .args .side .now) (c .before .before .before .before .before .before .before .before .before .before .before .pre .1 .1)) (c .before .before .before .before .before .before .loop .inv) (omega (arith, length-side _ _ (c .before .before .before .before .before .before .before .before .before .before .before .pre .1 .0 .0), c .before .before .before .before .before .before .before .before .before .before .before .pre .1 .0 .1, c .before .before .before .before .before .loop-test .taken)) (c .before .before .before .before .vertex-at .ensures)) _ (c .before .before .copy-lists .ensures)) (next-inside _ _ _ _ (c .before .before .before .before .before .before .before .before .before .before .before .pre .0 .rising) (zero-fits (c .before .before .before .before .before .before .before .before .before .before .before .args .side .now) (c .before .before .before .before .before .before .before .before .before .before .before .pre .1 .1)) (c .before .before .before .before .before .before .loop .inv) (omega (arith, length-side _ _ (c .before .before .before .before .before .before .before .before .before .before .before .pre .1 .0 .0), c .before .before .before .before .before .before .before .before .before .before .before .pre .1 .0 .1, c .before .before .before .before .before .loop-test .taken)) (c .before .before .before .before .vertex-at .ensures)))
 
 neighbours-requires : tie.Need-neighbours-requires Inv-loop μ-loop
-neighbours-requires c κs = c .before .before .before .before .before .before .pre .0 .within _ (c .loop-test .taken)
+neighbours-requires c κs = c .before .before .before .before .before .before .before .before .before .before .before .pre .0 .within _ (next-inside _ _ _ _ (c .before .before .before .before .before .before .before .before .before .before .before .pre .0 .rising) (zero-fits (c .before .before .before .before .before .before .before .before .before .before .before .args .side .now) (c .before .before .before .before .before .before .before .before .before .before .before .pre .1 .1)) (c .before .before .before .before .before .before .loop .inv) (omega (arith, length-side _ _ (c .before .before .before .before .before .before .before .before .before .before .before .pre .1 .0 .0), c .before .before .before .before .before .before .before .before .before .before .before .pre .1 .0 .1, c .before .before .before .before .before .loop-test .taken)) (c .before .before .before .before .vertex-at .ensures))
 
 add-merge-list : tie.Need-add-merge-list Inv-loop μ-loop
 add-merge-list c = search needs
 
 add-merge-list-2 : tie.Need-add-merge-list-2 Inv-loop μ-loop
-add-merge-list-2 c = omega (arith, siding-low _ _ _ _ (c .before .before .before .before .before .before .before .pre .0 .rising) (zero-fits (c .before .before .before .before .before .before .before .args .side .now) (c .before .before .before .before .before .before .before .pre .1 .1)) (c .before .before .loop .inv) (c .before .loop-test .taken))
+add-merge-list-2 c = omega (arith, siding-low _ _ _ _ (c .before .before .before .before .before .before .before .before .before .before .before .before .pre .0 .rising) (zero-fits (c .before .before .before .before .before .before .before .before .before .before .before .before .args .side .now) (c .before .before .before .before .before .before .before .before .before .before .before .before .pre .1 .1)) (siding-copied _ _ _ _ (c .before .before .before .before .before .before .before .before .before .before .before .before .pre .0 .rising) (zero-fits (c .before .before .before .before .before .before .before .before .before .before .before .before .args .side .now) (c .before .before .before .before .before .before .before .before .before .before .before .before .pre .1 .1)) (c .before .before .before .before .before .before .before .loop .inv) (next-above _ _ _ _ (c .before .before .before .before .before .before .before .before .before .before .before .before .pre .0 .rising) (zero-fits (c .before .before .before .before .before .before .before .before .before .before .before .before .args .side .now) (c .before .before .before .before .before .before .before .before .before .before .before .before .pre .1 .1)) (c .before .before .before .before .before .before .before .loop .inv) (omega (arith, length-side _ _ (c .before .before .before .before .before .before .before .before .before .before .before .before .pre .1 .0 .0), c .before .before .before .before .before .before .before .before .before .before .before .before .pre .1 .0 .1, c .before .before .before .before .before .before .loop-test .taken)) (c .before .before .before .before .before .vertex-at .ensures)) (le-of-lt (next-inside _ _ _ _ (c .before .before .before .before .before .before .before .before .before .before .before .before .pre .0 .rising) (zero-fits (c .before .before .before .before .before .before .before .before .before .before .before .before .args .side .now) (c .before .before .before .before .before .before .before .before .before .before .before .before .pre .1 .1)) (c .before .before .before .before .before .before .before .loop .inv) (omega (arith, length-side _ _ (c .before .before .before .before .before .before .before .before .before .before .before .before .pre .1 .0 .0), c .before .before .before .before .before .before .before .before .before .before .before .before .pre .1 .0 .1, c .before .before .before .before .before .before .loop-test .taken)) (c .before .before .before .before .before .vertex-at .ensures))) (next-later _ _ _ _ (c .before .before .before .before .before .before .before .before .before .before .before .before .pre .0 .rising) (zero-fits (c .before .before .before .before .before .before .before .before .before .before .before .before .args .side .now) (c .before .before .before .before .before .before .before .before .before .before .before .before .pre .1 .1)) (c .before .before .before .before .before .before .before .loop .inv) (omega (arith, length-side _ _ (c .before .before .before .before .before .before .before .before .before .before .before .before .pre .1 .0 .0), c .before .before .before .before .before .before .before .before .before .before .before .before .pre .1 .0 .1, c .before .before .before .before .before .before .loop-test .taken)) (c .before .before .before .before .before .vertex-at .ensures)) _ (c .before .before .before .copy-lists .ensures)) (next-inside _ _ _ _ (c .before .before .before .before .before .before .before .before .before .before .before .before .pre .0 .rising) (zero-fits (c .before .before .before .before .before .before .before .before .before .before .before .before .args .side .now) (c .before .before .before .before .before .before .before .before .before .before .before .before .pre .1 .1)) (c .before .before .before .before .before .before .before .loop .inv) (omega (arith, length-side _ _ (c .before .before .before .before .before .before .before .before .before .before .before .before .pre .1 .0 .0), c .before .before .before .before .before .before .before .before .before .before .before .before .pre .1 .0 .1, c .before .before .before .before .before .before .loop-test .taken)) (c .before .before .before .before .before .vertex-at .ensures)))
 
 mul-merge-list : tie.Need-mul-merge-list Inv-loop μ-loop
-mul-merge-list c = omega (arith, siding-low _ _ _ _ (c .before .before .before .before .before .before .before .pre .0 .rising) (zero-fits (c .before .before .before .before .before .before .before .args .side .now) (c .before .before .before .before .before .before .before .pre .1 .1)) (c .before .before .loop .inv) (c .before .loop-test .taken))
+mul-merge-list c = omega (arith, siding-low _ _ _ _ (c .before .before .before .before .before .before .before .before .before .before .before .before .pre .0 .rising) (zero-fits (c .before .before .before .before .before .before .before .before .before .before .before .before .args .side .now) (c .before .before .before .before .before .before .before .before .before .before .before .before .pre .1 .1)) (siding-copied _ _ _ _ (c .before .before .before .before .before .before .before .before .before .before .before .before .pre .0 .rising) (zero-fits (c .before .before .before .before .before .before .before .before .before .before .before .before .args .side .now) (c .before .before .before .before .before .before .before .before .before .before .before .before .pre .1 .1)) (c .before .before .before .before .before .before .before .loop .inv) (next-above _ _ _ _ (c .before .before .before .before .before .before .before .before .before .before .before .before .pre .0 .rising) (zero-fits (c .before .before .before .before .before .before .before .before .before .before .before .before .args .side .now) (c .before .before .before .before .before .before .before .before .before .before .before .before .pre .1 .1)) (c .before .before .before .before .before .before .before .loop .inv) (omega (arith, length-side _ _ (c .before .before .before .before .before .before .before .before .before .before .before .before .pre .1 .0 .0), c .before .before .before .before .before .before .before .before .before .before .before .before .pre .1 .0 .1, c .before .before .before .before .before .before .loop-test .taken)) (c .before .before .before .before .before .vertex-at .ensures)) (le-of-lt (next-inside _ _ _ _ (c .before .before .before .before .before .before .before .before .before .before .before .before .pre .0 .rising) (zero-fits (c .before .before .before .before .before .before .before .before .before .before .before .before .args .side .now) (c .before .before .before .before .before .before .before .before .before .before .before .before .pre .1 .1)) (c .before .before .before .before .before .before .before .loop .inv) (omega (arith, length-side _ _ (c .before .before .before .before .before .before .before .before .before .before .before .before .pre .1 .0 .0), c .before .before .before .before .before .before .before .before .before .before .before .before .pre .1 .0 .1, c .before .before .before .before .before .before .loop-test .taken)) (c .before .before .before .before .before .vertex-at .ensures))) (next-later _ _ _ _ (c .before .before .before .before .before .before .before .before .before .before .before .before .pre .0 .rising) (zero-fits (c .before .before .before .before .before .before .before .before .before .before .before .before .args .side .now) (c .before .before .before .before .before .before .before .before .before .before .before .before .pre .1 .1)) (c .before .before .before .before .before .before .before .loop .inv) (omega (arith, length-side _ _ (c .before .before .before .before .before .before .before .before .before .before .before .before .pre .1 .0 .0), c .before .before .before .before .before .before .before .before .before .before .before .before .pre .1 .0 .1, c .before .before .before .before .before .before .loop-test .taken)) (c .before .before .before .before .before .vertex-at .ensures)) _ (c .before .before .before .copy-lists .ensures)) (next-inside _ _ _ _ (c .before .before .before .before .before .before .before .before .before .before .before .before .pre .0 .rising) (zero-fits (c .before .before .before .before .before .before .before .before .before .before .before .before .args .side .now) (c .before .before .before .before .before .before .before .before .before .before .before .before .pre .1 .1)) (c .before .before .before .before .before .before .before .loop .inv) (omega (arith, length-side _ _ (c .before .before .before .before .before .before .before .before .before .before .before .before .pre .1 .0 .0), c .before .before .before .before .before .before .before .before .before .before .before .before .pre .1 .0 .1, c .before .before .before .before .before .before .loop-test .taken)) (c .before .before .before .before .before .vertex-at .ensures)))
 
 sub-merge-list : tie.Need-sub-merge-list Inv-loop μ-loop
-sub-merge-list c = omega (arith, siding-fits _ _ _ _ (c .before .before .before .before .before .before .before .pre .0 .rising) (zero-fits (c .before .before .before .before .before .before .before .args .side .now) (c .before .before .before .before .before .before .before .pre .1 .1)) (c .before .before .loop .inv) (c .before .loop-test .taken))
+sub-merge-list c = siding-fits _ _ _ _ (c .before .before .before .before .before .before .before .before .before .before .before .before .pre .0 .rising) (zero-fits (c .before .before .before .before .before .before .before .before .before .before .before .before .args .side .now) (c .before .before .before .before .before .before .before .before .before .before .before .before .pre .1 .1)) (siding-copied _ _ _ _ (c .before .before .before .before .before .before .before .before .before .before .before .before .pre .0 .rising) (zero-fits (c .before .before .before .before .before .before .before .before .before .before .before .before .args .side .now) (c .before .before .before .before .before .before .before .before .before .before .before .before .pre .1 .1)) (c .before .before .before .before .before .before .before .loop .inv) (next-above _ _ _ _ (c .before .before .before .before .before .before .before .before .before .before .before .before .pre .0 .rising) (zero-fits (c .before .before .before .before .before .before .before .before .before .before .before .before .args .side .now) (c .before .before .before .before .before .before .before .before .before .before .before .before .pre .1 .1)) (c .before .before .before .before .before .before .before .loop .inv) (omega (arith, length-side _ _ (c .before .before .before .before .before .before .before .before .before .before .before .before .pre .1 .0 .0), c .before .before .before .before .before .before .before .before .before .before .before .before .pre .1 .0 .1, c .before .before .before .before .before .before .loop-test .taken)) (c .before .before .before .before .before .vertex-at .ensures)) (le-of-lt (next-inside _ _ _ _ (c .before .before .before .before .before .before .before .before .before .before .before .before .pre .0 .rising) (zero-fits (c .before .before .before .before .before .before .before .before .before .before .before .before .args .side .now) (c .before .before .before .before .before .before .before .before .before .before .before .before .pre .1 .1)) (c .before .before .before .before .before .before .before .loop .inv) (omega (arith, length-side _ _ (c .before .before .before .before .before .before .before .before .before .before .before .before .pre .1 .0 .0), c .before .before .before .before .before .before .before .before .before .before .before .before .pre .1 .0 .1, c .before .before .before .before .before .before .loop-test .taken)) (c .before .before .before .before .before .vertex-at .ensures))) (next-later _ _ _ _ (c .before .before .before .before .before .before .before .before .before .before .before .before .pre .0 .rising) (zero-fits (c .before .before .before .before .before .before .before .before .before .before .before .before .args .side .now) (c .before .before .before .before .before .before .before .before .before .before .before .before .pre .1 .1)) (c .before .before .before .before .before .before .before .loop .inv) (omega (arith, length-side _ _ (c .before .before .before .before .before .before .before .before .before .before .before .before .pre .1 .0 .0), c .before .before .before .before .before .before .before .before .before .before .before .before .pre .1 .0 .1, c .before .before .before .before .before .before .loop-test .taken)) (c .before .before .before .before .before .vertex-at .ensures)) _ (c .before .before .before .copy-lists .ensures)) (next-inside _ _ _ _ (c .before .before .before .before .before .before .before .before .before .before .before .before .pre .0 .rising) (zero-fits (c .before .before .before .before .before .before .before .before .before .before .before .before .args .side .now) (c .before .before .before .before .before .before .before .before .before .before .before .before .pre .1 .1)) (c .before .before .before .before .before .before .before .loop .inv) (omega (arith, length-side _ _ (c .before .before .before .before .before .before .before .before .before .before .before .before .pre .1 .0 .0), c .before .before .before .before .before .before .before .before .before .before .before .before .pre .1 .0 .1, c .before .before .before .before .before .before .loop-test .taken)) (c .before .before .before .before .before .vertex-at .ensures))
 
 part-merge-list-start : tie.Need-part-merge-list-start Inv-loop μ-loop
-part-merge-list-start c = siding-fits _ _ _ _ (c .before .before .before .before .before .before .before .pre .0 .rising) (zero-fits (c .before .before .before .before .before .before .before .args .side .now) (c .before .before .before .before .before .before .before .pre .1 .1)) (c .before .before .loop .inv) (c .before .loop-test .taken)
+part-merge-list-start c = siding-fits _ _ _ _ (c .before .before .before .before .before .before .before .before .before .before .before .before .pre .0 .rising) (zero-fits (c .before .before .before .before .before .before .before .before .before .before .before .before .args .side .now) (c .before .before .before .before .before .before .before .before .before .before .before .before .pre .1 .1)) (siding-copied _ _ _ _ (c .before .before .before .before .before .before .before .before .before .before .before .before .pre .0 .rising) (zero-fits (c .before .before .before .before .before .before .before .before .before .before .before .before .args .side .now) (c .before .before .before .before .before .before .before .before .before .before .before .before .pre .1 .1)) (c .before .before .before .before .before .before .before .loop .inv) (next-above _ _ _ _ (c .before .before .before .before .before .before .before .before .before .before .before .before .pre .0 .rising) (zero-fits (c .before .before .before .before .before .before .before .before .before .before .before .before .args .side .now) (c .before .before .before .before .before .before .before .before .before .before .before .before .pre .1 .1)) (c .before .before .before .before .before .before .before .loop .inv) (omega (arith, length-side _ _ (c .before .before .before .before .before .before .before .before .before .before .before .before .pre .1 .0 .0), c .before .before .before .before .before .before .before .before .before .before .before .before .pre .1 .0 .1, c .before .before .before .before .before .before .loop-test .taken)) (c .before .before .before .before .before .vertex-at .ensures)) (le-of-lt (next-inside _ _ _ _ (c .before .before .before .before .before .before .before .before .before .before .before .before .pre .0 .rising) (zero-fits (c .before .before .before .before .before .before .before .before .before .before .before .before .args .side .now) (c .before .before .before .before .before .before .before .before .before .before .before .before .pre .1 .1)) (c .before .before .before .before .before .before .before .loop .inv) (omega (arith, length-side _ _ (c .before .before .before .before .before .before .before .before .before .before .before .before .pre .1 .0 .0), c .before .before .before .before .before .before .before .before .before .before .before .before .pre .1 .0 .1, c .before .before .before .before .before .before .loop-test .taken)) (c .before .before .before .before .before .vertex-at .ensures))) (next-later _ _ _ _ (c .before .before .before .before .before .before .before .before .before .before .before .before .pre .0 .rising) (zero-fits (c .before .before .before .before .before .before .before .before .before .before .before .before .args .side .now) (c .before .before .before .before .before .before .before .before .before .before .before .before .pre .1 .1)) (c .before .before .before .before .before .before .before .loop .inv) (omega (arith, length-side _ _ (c .before .before .before .before .before .before .before .before .before .before .before .before .pre .1 .0 .0), c .before .before .before .before .before .before .before .before .before .before .before .before .pre .1 .0 .1, c .before .before .before .before .before .before .loop-test .taken)) (c .before .before .before .before .before .vertex-at .ensures)) _ (c .before .before .before .copy-lists .ensures)) (next-inside _ _ _ _ (c .before .before .before .before .before .before .before .before .before .before .before .before .pre .0 .rising) (zero-fits (c .before .before .before .before .before .before .before .before .before .before .before .before .args .side .now) (c .before .before .before .before .before .before .before .before .before .before .before .before .pre .1 .1)) (c .before .before .before .before .before .before .before .loop .inv) (omega (arith, length-side _ _ (c .before .before .before .before .before .before .before .before .before .before .before .before .pre .1 .0 .0), c .before .before .before .before .before .before .before .before .before .before .before .before .pre .1 .0 .1, c .before .before .before .before .before .before .loop-test .taken)) (c .before .before .before .before .before .vertex-at .ensures))
 
 part-merge-list-end : tie.Need-part-merge-list-end Inv-loop μ-loop
 part-merge-list-end c = search needs
 
 merge-list-requires : tie.Need-merge-list-requires Inv-loop μ-loop
-merge-list-requires c κs = (c .before .before .before .before .before .before .before .before .pre .1 .0, siding-able _ _ _ _ (c .before .before .before .before .before .before .before .before .pre .0 .rising) (zero-fits (c .before .before .before .before .before .before .before .before .args .side .now) (c .before .before .before .before .before .before .before .before .pre .1 .1)) (c .before .before .before .loop .inv) (c .before .before .loop-test .taken) (c .before .neighbours .ensures ∙ c .before .before .before .before .before .before .before .before .pre .0 .lists _ (c .before .before .loop-test .taken)))
+merge-list-requires c κs = (c .before .before .before .before .before .before .before .before .before .before .before .before .before .pre .1 .0, siding-able _ _ _ _ (c .before .before .before .before .before .before .before .before .before .before .before .before .before .pre .0 .rising) (zero-fits (c .before .before .before .before .before .before .before .before .before .before .before .before .before .args .side .now) (c .before .before .before .before .before .before .before .before .before .before .before .before .before .pre .1 .1)) (siding-copied _ _ _ _ (c .before .before .before .before .before .before .before .before .before .before .before .before .before .pre .0 .rising) (zero-fits (c .before .before .before .before .before .before .before .before .before .before .before .before .before .args .side .now) (c .before .before .before .before .before .before .before .before .before .before .before .before .before .pre .1 .1)) (c .before .before .before .before .before .before .before .before .loop .inv) (next-above _ _ _ _ (c .before .before .before .before .before .before .before .before .before .before .before .before .before .pre .0 .rising) (zero-fits (c .before .before .before .before .before .before .before .before .before .before .before .before .before .args .side .now) (c .before .before .before .before .before .before .before .before .before .before .before .before .before .pre .1 .1)) (c .before .before .before .before .before .before .before .before .loop .inv) (omega (arith, length-side _ _ (c .before .before .before .before .before .before .before .before .before .before .before .before .before .pre .1 .0 .0), c .before .before .before .before .before .before .before .before .before .before .before .before .before .pre .1 .0 .1, c .before .before .before .before .before .before .before .loop-test .taken)) (c .before .before .before .before .before .before .vertex-at .ensures)) (le-of-lt (next-inside _ _ _ _ (c .before .before .before .before .before .before .before .before .before .before .before .before .before .pre .0 .rising) (zero-fits (c .before .before .before .before .before .before .before .before .before .before .before .before .before .args .side .now) (c .before .before .before .before .before .before .before .before .before .before .before .before .before .pre .1 .1)) (c .before .before .before .before .before .before .before .before .loop .inv) (omega (arith, length-side _ _ (c .before .before .before .before .before .before .before .before .before .before .before .before .before .pre .1 .0 .0), c .before .before .before .before .before .before .before .before .before .before .before .before .before .pre .1 .0 .1, c .before .before .before .before .before .before .before .loop-test .taken)) (c .before .before .before .before .before .before .vertex-at .ensures))) (next-later _ _ _ _ (c .before .before .before .before .before .before .before .before .before .before .before .before .before .pre .0 .rising) (zero-fits (c .before .before .before .before .before .before .before .before .before .before .before .before .before .args .side .now) (c .before .before .before .before .before .before .before .before .before .before .before .before .before .pre .1 .1)) (c .before .before .before .before .before .before .before .before .loop .inv) (omega (arith, length-side _ _ (c .before .before .before .before .before .before .before .before .before .before .before .before .before .pre .1 .0 .0), c .before .before .before .before .before .before .before .before .before .before .before .before .before .pre .1 .0 .1, c .before .before .before .before .before .before .before .loop-test .taken)) (c .before .before .before .before .before .before .vertex-at .ensures)) _ (c .before .before .before .before .copy-lists .ensures)) (next-inside _ _ _ _ (c .before .before .before .before .before .before .before .before .before .before .before .before .before .pre .0 .rising) (zero-fits (c .before .before .before .before .before .before .before .before .before .before .before .before .before .args .side .now) (c .before .before .before .before .before .before .before .before .before .before .before .before .before .pre .1 .1)) (c .before .before .before .before .before .before .before .before .loop .inv) (omega (arith, length-side _ _ (c .before .before .before .before .before .before .before .before .before .before .before .before .before .pre .1 .0 .0), c .before .before .before .before .before .before .before .before .before .before .before .before .before .pre .1 .0 .1, c .before .before .before .before .before .before .before .loop-test .taken)) (c .before .before .before .before .before .before .vertex-at .ensures)) (c .before .neighbours .ensures ∙ c .before .before .before .before .before .before .before .before .before .before .before .before .before .pre .0 .lists _ (next-inside _ _ _ _ (c .before .before .before .before .before .before .before .before .before .before .before .before .before .pre .0 .rising) (zero-fits (c .before .before .before .before .before .before .before .before .before .before .before .before .before .args .side .now) (c .before .before .before .before .before .before .before .before .before .before .before .before .before .pre .1 .1)) (c .before .before .before .before .before .before .before .before .loop .inv) (omega (arith, length-side _ _ (c .before .before .before .before .before .before .before .before .before .before .before .before .before .pre .1 .0 .0), c .before .before .before .before .before .before .before .before .before .before .before .before .before .pre .1 .0 .1, c .before .before .before .before .before .before .before .loop-test .taken)) (c .before .before .before .before .before .before .vertex-at .ensures))))
 
-add-len : tie.Need-add-len Inv-loop μ-loop
-add-len c = omega (arith, siding-small _ _ _ _ (c .before .before .before .before .before .before .before .before .before .before .before .before .pre .0 .rising) (zero-fits (c .before .before .before .before .before .before .before .before .before .before .before .before .args .side .now) (c .before .before .before .before .before .before .before .before .before .before .before .before .pre .1 .1)) (c .before .before .before .before .before .before .before .loop .inv) (c .before .before .before .before .before .before .loop-test .taken) (c .before .before .before .before .before .neighbours .ensures ∙ c .before .before .before .before .before .before .before .before .before .before .before .before .pre .0 .lists _ (c .before .before .before .before .before .before .loop-test .taken)) (c .before .before .before .merge-list .ensures .0) (c .before .before .before .merge-list .ensures .1 .0) (c .before .before .before .merge-list .ensures .1 .1))
+add-len-2 : tie.Need-add-len-2 Inv-loop μ-loop
+add-len-2 c = omega (arith, siding-small _ _ _ _ (c .before .before .before .before .before .before .before .before .before .before .before .before .before .before .before .before .before .pre .0 .rising) (zero-fits (c .before .before .before .before .before .before .before .before .before .before .before .before .before .before .before .before .before .args .side .now) (c .before .before .before .before .before .before .before .before .before .before .before .before .before .before .before .before .before .pre .1 .1)) (siding-copied _ _ _ _ (c .before .before .before .before .before .before .before .before .before .before .before .before .before .before .before .before .before .pre .0 .rising) (zero-fits (c .before .before .before .before .before .before .before .before .before .before .before .before .before .before .before .before .before .args .side .now) (c .before .before .before .before .before .before .before .before .before .before .before .before .before .before .before .before .before .pre .1 .1)) (c .before .before .before .before .before .before .before .before .before .before .before .before .loop .inv) (next-above _ _ _ _ (c .before .before .before .before .before .before .before .before .before .before .before .before .before .before .before .before .before .pre .0 .rising) (zero-fits (c .before .before .before .before .before .before .before .before .before .before .before .before .before .before .before .before .before .args .side .now) (c .before .before .before .before .before .before .before .before .before .before .before .before .before .before .before .before .before .pre .1 .1)) (c .before .before .before .before .before .before .before .before .before .before .before .before .loop .inv) (omega (arith, length-side _ _ (c .before .before .before .before .before .before .before .before .before .before .before .before .before .before .before .before .before .pre .1 .0 .0), c .before .before .before .before .before .before .before .before .before .before .before .before .before .before .before .before .before .pre .1 .0 .1, c .before .before .before .before .before .before .before .before .before .before .before .loop-test .taken)) (c .before .before .before .before .before .before .before .before .before .before .vertex-at .ensures)) (le-of-lt (next-inside _ _ _ _ (c .before .before .before .before .before .before .before .before .before .before .before .before .before .before .before .before .before .pre .0 .rising) (zero-fits (c .before .before .before .before .before .before .before .before .before .before .before .before .before .before .before .before .before .args .side .now) (c .before .before .before .before .before .before .before .before .before .before .before .before .before .before .before .before .before .pre .1 .1)) (c .before .before .before .before .before .before .before .before .before .before .before .before .loop .inv) (omega (arith, length-side _ _ (c .before .before .before .before .before .before .before .before .before .before .before .before .before .before .before .before .before .pre .1 .0 .0), c .before .before .before .before .before .before .before .before .before .before .before .before .before .before .before .before .before .pre .1 .0 .1, c .before .before .before .before .before .before .before .before .before .before .before .loop-test .taken)) (c .before .before .before .before .before .before .before .before .before .before .vertex-at .ensures))) (next-later _ _ _ _ (c .before .before .before .before .before .before .before .before .before .before .before .before .before .before .before .before .before .pre .0 .rising) (zero-fits (c .before .before .before .before .before .before .before .before .before .before .before .before .before .before .before .before .before .args .side .now) (c .before .before .before .before .before .before .before .before .before .before .before .before .before .before .before .before .before .pre .1 .1)) (c .before .before .before .before .before .before .before .before .before .before .before .before .loop .inv) (omega (arith, length-side _ _ (c .before .before .before .before .before .before .before .before .before .before .before .before .before .before .before .before .before .pre .1 .0 .0), c .before .before .before .before .before .before .before .before .before .before .before .before .before .before .before .before .before .pre .1 .0 .1, c .before .before .before .before .before .before .before .before .before .before .before .loop-test .taken)) (c .before .before .before .before .before .before .before .before .before .before .vertex-at .ensures)) _ (c .before .before .before .before .before .before .before .before .copy-lists .ensures)) (next-inside _ _ _ _ (c .before .before .before .before .before .before .before .before .before .before .before .before .before .before .before .before .before .pre .0 .rising) (zero-fits (c .before .before .before .before .before .before .before .before .before .before .before .before .before .before .before .before .before .args .side .now) (c .before .before .before .before .before .before .before .before .before .before .before .before .before .before .before .before .before .pre .1 .1)) (c .before .before .before .before .before .before .before .before .before .before .before .before .loop .inv) (omega (arith, length-side _ _ (c .before .before .before .before .before .before .before .before .before .before .before .before .before .before .before .before .before .pre .1 .0 .0), c .before .before .before .before .before .before .before .before .before .before .before .before .before .before .before .before .before .pre .1 .0 .1, c .before .before .before .before .before .before .before .before .before .before .before .loop-test .taken)) (c .before .before .before .before .before .before .before .before .before .before .vertex-at .ensures)) (c .before .before .before .before .before .neighbours .ensures ∙ c .before .before .before .before .before .before .before .before .before .before .before .before .before .before .before .before .before .pre .0 .lists _ (next-inside _ _ _ _ (c .before .before .before .before .before .before .before .before .before .before .before .before .before .before .before .before .before .pre .0 .rising) (zero-fits (c .before .before .before .before .before .before .before .before .before .before .before .before .before .before .before .before .before .args .side .now) (c .before .before .before .before .before .before .before .before .before .before .before .before .before .before .before .before .before .pre .1 .1)) (c .before .before .before .before .before .before .before .before .before .before .before .before .loop .inv) (omega (arith, length-side _ _ (c .before .before .before .before .before .before .before .before .before .before .before .before .before .before .before .before .before .pre .1 .0 .0), c .before .before .before .before .before .before .before .before .before .before .before .before .before .before .before .before .before .pre .1 .0 .1, c .before .before .before .before .before .before .before .before .before .before .before .loop-test .taken)) (c .before .before .before .before .before .before .before .before .before .before .vertex-at .ensures))) (c .before .before .before .merge-list .ensures .0) (c .before .before .before .merge-list .ensures .1 .0) (c .before .before .before .merge-list .ensures .1 .1))
 
 cast-side : tie.Need-cast-side Inv-loop μ-loop
-cast-side c = omega (arith, siding-small _ _ _ _ (c .before .before .before .before .before .before .before .before .before .before .before .before .pre .0 .rising) (zero-fits (c .before .before .before .before .before .before .before .before .before .before .before .before .args .side .now) (c .before .before .before .before .before .before .before .before .before .before .before .before .pre .1 .1)) (c .before .before .before .before .before .before .before .loop .inv) (c .before .before .before .before .before .before .loop-test .taken) (c .before .before .before .before .before .neighbours .ensures ∙ c .before .before .before .before .before .before .before .before .before .before .before .before .pre .0 .lists _ (c .before .before .before .before .before .before .loop-test .taken)) (c .before .before .before .merge-list .ensures .0) (c .before .before .before .merge-list .ensures .1 .0) (c .before .before .before .merge-list .ensures .1 .1))
+cast-side c = omega (arith, siding-small _ _ _ _ (c .before .before .before .before .before .before .before .before .before .before .before .before .before .before .before .before .before .pre .0 .rising) (zero-fits (c .before .before .before .before .before .before .before .before .before .before .before .before .before .before .before .before .before .args .side .now) (c .before .before .before .before .before .before .before .before .before .before .before .before .before .before .before .before .before .pre .1 .1)) (siding-copied _ _ _ _ (c .before .before .before .before .before .before .before .before .before .before .before .before .before .before .before .before .before .pre .0 .rising) (zero-fits (c .before .before .before .before .before .before .before .before .before .before .before .before .before .before .before .before .before .args .side .now) (c .before .before .before .before .before .before .before .before .before .before .before .before .before .before .before .before .before .pre .1 .1)) (c .before .before .before .before .before .before .before .before .before .before .before .before .loop .inv) (next-above _ _ _ _ (c .before .before .before .before .before .before .before .before .before .before .before .before .before .before .before .before .before .pre .0 .rising) (zero-fits (c .before .before .before .before .before .before .before .before .before .before .before .before .before .before .before .before .before .args .side .now) (c .before .before .before .before .before .before .before .before .before .before .before .before .before .before .before .before .before .pre .1 .1)) (c .before .before .before .before .before .before .before .before .before .before .before .before .loop .inv) (omega (arith, length-side _ _ (c .before .before .before .before .before .before .before .before .before .before .before .before .before .before .before .before .before .pre .1 .0 .0), c .before .before .before .before .before .before .before .before .before .before .before .before .before .before .before .before .before .pre .1 .0 .1, c .before .before .before .before .before .before .before .before .before .before .before .loop-test .taken)) (c .before .before .before .before .before .before .before .before .before .before .vertex-at .ensures)) (le-of-lt (next-inside _ _ _ _ (c .before .before .before .before .before .before .before .before .before .before .before .before .before .before .before .before .before .pre .0 .rising) (zero-fits (c .before .before .before .before .before .before .before .before .before .before .before .before .before .before .before .before .before .args .side .now) (c .before .before .before .before .before .before .before .before .before .before .before .before .before .before .before .before .before .pre .1 .1)) (c .before .before .before .before .before .before .before .before .before .before .before .before .loop .inv) (omega (arith, length-side _ _ (c .before .before .before .before .before .before .before .before .before .before .before .before .before .before .before .before .before .pre .1 .0 .0), c .before .before .before .before .before .before .before .before .before .before .before .before .before .before .before .before .before .pre .1 .0 .1, c .before .before .before .before .before .before .before .before .before .before .before .loop-test .taken)) (c .before .before .before .before .before .before .before .before .before .before .vertex-at .ensures))) (next-later _ _ _ _ (c .before .before .before .before .before .before .before .before .before .before .before .before .before .before .before .before .before .pre .0 .rising) (zero-fits (c .before .before .before .before .before .before .before .before .before .before .before .before .before .before .before .before .before .args .side .now) (c .before .before .before .before .before .before .before .before .before .before .before .before .before .before .before .before .before .pre .1 .1)) (c .before .before .before .before .before .before .before .before .before .before .before .before .loop .inv) (omega (arith, length-side _ _ (c .before .before .before .before .before .before .before .before .before .before .before .before .before .before .before .before .before .pre .1 .0 .0), c .before .before .before .before .before .before .before .before .before .before .before .before .before .before .before .before .before .pre .1 .0 .1, c .before .before .before .before .before .before .before .before .before .before .before .loop-test .taken)) (c .before .before .before .before .before .before .before .before .before .before .vertex-at .ensures)) _ (c .before .before .before .before .before .before .before .before .copy-lists .ensures)) (next-inside _ _ _ _ (c .before .before .before .before .before .before .before .before .before .before .before .before .before .before .before .before .before .pre .0 .rising) (zero-fits (c .before .before .before .before .before .before .before .before .before .before .before .before .before .before .before .before .before .args .side .now) (c .before .before .before .before .before .before .before .before .before .before .before .before .before .before .before .before .before .pre .1 .1)) (c .before .before .before .before .before .before .before .before .before .before .before .before .loop .inv) (omega (arith, length-side _ _ (c .before .before .before .before .before .before .before .before .before .before .before .before .before .before .before .before .before .pre .1 .0 .0), c .before .before .before .before .before .before .before .before .before .before .before .before .before .before .before .before .before .pre .1 .0 .1, c .before .before .before .before .before .before .before .before .before .before .before .loop-test .taken)) (c .before .before .before .before .before .before .before .before .before .before .vertex-at .ensures)) (c .before .before .before .before .before .neighbours .ensures ∙ c .before .before .before .before .before .before .before .before .before .before .before .before .before .before .before .before .before .pre .0 .lists _ (next-inside _ _ _ _ (c .before .before .before .before .before .before .before .before .before .before .before .before .before .before .before .before .before .pre .0 .rising) (zero-fits (c .before .before .before .before .before .before .before .before .before .before .before .before .before .before .before .before .before .args .side .now) (c .before .before .before .before .before .before .before .before .before .before .before .before .before .before .before .before .before .pre .1 .1)) (c .before .before .before .before .before .before .before .before .before .before .before .before .loop .inv) (omega (arith, length-side _ _ (c .before .before .before .before .before .before .before .before .before .before .before .before .before .before .before .before .before .pre .1 .0 .0), c .before .before .before .before .before .before .before .before .before .before .before .before .before .before .before .before .before .pre .1 .0 .1, c .before .before .before .before .before .before .before .before .before .before .before .loop-test .taken)) (c .before .before .before .before .before .before .before .before .before .before .vertex-at .ensures))) (c .before .before .before .merge-list .ensures .0) (c .before .before .before .merge-list .ensures .1 .0) (c .before .before .before .merge-list .ensures .1 .1))
 
 add-side : tie.Need-add-side Inv-loop μ-loop
-add-side c = search needs
+add-side c = omega (arith, (next-inside _ _ _ _ (c .before .before .before .before .before .before .before .before .before .before .before .before .before .before .before .before .before .pre .0 .rising) (zero-fits (c .before .before .before .before .before .before .before .before .before .before .before .before .before .before .before .before .before .args .side .now) (c .before .before .before .before .before .before .before .before .before .before .before .before .before .before .before .before .before .pre .1 .1)) (c .before .before .before .before .before .before .before .before .before .before .before .before .loop .inv) (omega (arith, length-side _ _ (c .before .before .before .before .before .before .before .before .before .before .before .before .before .before .before .before .before .pre .1 .0 .0), c .before .before .before .before .before .before .before .before .before .before .before .before .before .before .before .before .before .pre .1 .0 .1, c .before .before .before .before .before .before .before .before .before .before .before .loop-test .taken)) (c .before .before .before .before .before .before .before .before .before .before .vertex-at .ensures)), c .before .before .before .before .before .before .before .before .before .before .before .before .before .before .before .before .before .pre .1 .1 .few)
 
 mul-side : tie.Need-mul-side Inv-loop μ-loop
-mul-side c = search needs
+mul-side c = omega (arith, (next-inside _ _ _ _ (c .before .before .before .before .before .before .before .before .before .before .before .before .before .before .before .before .before .pre .0 .rising) (zero-fits (c .before .before .before .before .before .before .before .before .before .before .before .before .before .before .before .before .before .args .side .now) (c .before .before .before .before .before .before .before .before .before .before .before .before .before .before .before .before .before .pre .1 .1)) (c .before .before .before .before .before .before .before .before .before .before .before .before .loop .inv) (omega (arith, length-side _ _ (c .before .before .before .before .before .before .before .before .before .before .before .before .before .before .before .before .before .pre .1 .0 .0), c .before .before .before .before .before .before .before .before .before .before .before .before .before .before .before .before .before .pre .1 .0 .1, c .before .before .before .before .before .before .before .before .before .before .before .loop-test .taken)) (c .before .before .before .before .before .before .before .before .before .before .vertex-at .ensures)), c .before .before .before .before .before .before .before .before .before .before .before .before .before .before .before .before .before .pre .1 .1 .few)
 
 slice-write-side-2 : tie.Need-slice-write-side-2 Inv-loop μ-loop
-slice-write-side-2 c = omega (arith, lent-long _ _ _ _ (c .before .before .before .before .before .before .before .before .before .before .before .before .pre .0 .rising) (zero-fits (c .before .before .before .before .before .before .before .before .before .before .before .before .args .side .now) (c .before .before .before .before .before .before .before .before .before .before .before .before .pre .1 .1)) (c .before .before .before .before .before .before .before .loop .inv) (c .before .before .before .before .before .before .loop-test .taken) (c .before .before .before .before .before .neighbours .ensures ∙ c .before .before .before .before .before .before .before .before .before .before .before .before .pre .0 .lists _ (c .before .before .before .before .before .before .loop-test .taken)) (c .before .before .before .merge-list .ensures .0), siding-fits _ _ _ _ (c .before .before .before .before .before .before .before .before .before .before .before .before .pre .0 .rising) (zero-fits (c .before .before .before .before .before .before .before .before .before .before .before .before .args .side .now) (c .before .before .before .before .before .before .before .before .before .before .before .before .pre .1 .1)) (c .before .before .before .before .before .before .before .loop .inv) (c .before .before .before .before .before .before .loop-test .taken))
+slice-write-side-2 c = omega (arith, lent-long _ _ _ _ (c .before .before .before .before .before .before .before .before .before .before .before .before .before .before .before .before .before .pre .0 .rising) (zero-fits (c .before .before .before .before .before .before .before .before .before .before .before .before .before .before .before .before .before .args .side .now) (c .before .before .before .before .before .before .before .before .before .before .before .before .before .before .before .before .before .pre .1 .1)) (siding-copied _ _ _ _ (c .before .before .before .before .before .before .before .before .before .before .before .before .before .before .before .before .before .pre .0 .rising) (zero-fits (c .before .before .before .before .before .before .before .before .before .before .before .before .before .before .before .before .before .args .side .now) (c .before .before .before .before .before .before .before .before .before .before .before .before .before .before .before .before .before .pre .1 .1)) (c .before .before .before .before .before .before .before .before .before .before .before .before .loop .inv) (next-above _ _ _ _ (c .before .before .before .before .before .before .before .before .before .before .before .before .before .before .before .before .before .pre .0 .rising) (zero-fits (c .before .before .before .before .before .before .before .before .before .before .before .before .before .before .before .before .before .args .side .now) (c .before .before .before .before .before .before .before .before .before .before .before .before .before .before .before .before .before .pre .1 .1)) (c .before .before .before .before .before .before .before .before .before .before .before .before .loop .inv) (omega (arith, length-side _ _ (c .before .before .before .before .before .before .before .before .before .before .before .before .before .before .before .before .before .pre .1 .0 .0), c .before .before .before .before .before .before .before .before .before .before .before .before .before .before .before .before .before .pre .1 .0 .1, c .before .before .before .before .before .before .before .before .before .before .before .loop-test .taken)) (c .before .before .before .before .before .before .before .before .before .before .vertex-at .ensures)) (le-of-lt (next-inside _ _ _ _ (c .before .before .before .before .before .before .before .before .before .before .before .before .before .before .before .before .before .pre .0 .rising) (zero-fits (c .before .before .before .before .before .before .before .before .before .before .before .before .before .before .before .before .before .args .side .now) (c .before .before .before .before .before .before .before .before .before .before .before .before .before .before .before .before .before .pre .1 .1)) (c .before .before .before .before .before .before .before .before .before .before .before .before .loop .inv) (omega (arith, length-side _ _ (c .before .before .before .before .before .before .before .before .before .before .before .before .before .before .before .before .before .pre .1 .0 .0), c .before .before .before .before .before .before .before .before .before .before .before .before .before .before .before .before .before .pre .1 .0 .1, c .before .before .before .before .before .before .before .before .before .before .before .loop-test .taken)) (c .before .before .before .before .before .before .before .before .before .before .vertex-at .ensures))) (next-later _ _ _ _ (c .before .before .before .before .before .before .before .before .before .before .before .before .before .before .before .before .before .pre .0 .rising) (zero-fits (c .before .before .before .before .before .before .before .before .before .before .before .before .before .before .before .before .before .args .side .now) (c .before .before .before .before .before .before .before .before .before .before .before .before .before .before .before .before .before .pre .1 .1)) (c .before .before .before .before .before .before .before .before .before .before .before .before .loop .inv) (omega (arith, length-side _ _ (c .before .before .before .before .before .before .before .before .before .before .before .before .before .before .before .before .before .pre .1 .0 .0), c .before .before .before .before .before .before .before .before .before .before .before .before .before .before .before .before .before .pre .1 .0 .1, c .before .before .before .before .before .before .before .before .before .before .before .loop-test .taken)) (c .before .before .before .before .before .before .before .before .before .before .vertex-at .ensures)) _ (c .before .before .before .before .before .before .before .before .copy-lists .ensures)) (next-inside _ _ _ _ (c .before .before .before .before .before .before .before .before .before .before .before .before .before .before .before .before .before .pre .0 .rising) (zero-fits (c .before .before .before .before .before .before .before .before .before .before .before .before .before .before .before .before .before .args .side .now) (c .before .before .before .before .before .before .before .before .before .before .before .before .before .before .before .before .before .pre .1 .1)) (c .before .before .before .before .before .before .before .before .before .before .before .before .loop .inv) (omega (arith, length-side _ _ (c .before .before .before .before .before .before .before .before .before .before .before .before .before .before .before .before .before .pre .1 .0 .0), c .before .before .before .before .before .before .before .before .before .before .before .before .before .before .before .before .before .pre .1 .0 .1, c .before .before .before .before .before .before .before .before .before .before .before .loop-test .taken)) (c .before .before .before .before .before .before .before .before .before .before .vertex-at .ensures)) (c .before .before .before .before .before .neighbours .ensures ∙ c .before .before .before .before .before .before .before .before .before .before .before .before .before .before .before .before .before .pre .0 .lists _ (next-inside _ _ _ _ (c .before .before .before .before .before .before .before .before .before .before .before .before .before .before .before .before .before .pre .0 .rising) (zero-fits (c .before .before .before .before .before .before .before .before .before .before .before .before .before .before .before .before .before .args .side .now) (c .before .before .before .before .before .before .before .before .before .before .before .before .before .before .before .before .before .pre .1 .1)) (c .before .before .before .before .before .before .before .before .before .before .before .before .loop .inv) (omega (arith, length-side _ _ (c .before .before .before .before .before .before .before .before .before .before .before .before .before .before .before .before .before .pre .1 .0 .0), c .before .before .before .before .before .before .before .before .before .before .before .before .before .before .before .before .before .pre .1 .0 .1, c .before .before .before .before .before .before .before .before .before .before .before .loop-test .taken)) (c .before .before .before .before .before .before .before .before .before .before .vertex-at .ensures))) (c .before .before .before .merge-list .ensures .0), siding-fits _ _ _ _ (c .before .before .before .before .before .before .before .before .before .before .before .before .before .before .before .before .before .pre .0 .rising) (zero-fits (c .before .before .before .before .before .before .before .before .before .before .before .before .before .before .before .before .before .args .side .now) (c .before .before .before .before .before .before .before .before .before .before .before .before .before .before .before .before .before .pre .1 .1)) (siding-copied _ _ _ _ (c .before .before .before .before .before .before .before .before .before .before .before .before .before .before .before .before .before .pre .0 .rising) (zero-fits (c .before .before .before .before .before .before .before .before .before .before .before .before .before .before .before .before .before .args .side .now) (c .before .before .before .before .before .before .before .before .before .before .before .before .before .before .before .before .before .pre .1 .1)) (c .before .before .before .before .before .before .before .before .before .before .before .before .loop .inv) (next-above _ _ _ _ (c .before .before .before .before .before .before .before .before .before .before .before .before .before .before .before .before .before .pre .0 .rising) (zero-fits (c .before .before .before .before .before .before .before .before .before .before .before .before .before .before .before .before .before .args .side .now) (c .before .before .before .before .before .before .before .before .before .before .before .before .before .before .before .before .before .pre .1 .1)) (c .before .before .before .before .before .before .before .before .before .before .before .before .loop .inv) (omega (arith, length-side _ _ (c .before .before .before .before .before .before .before .before .before .before .before .before .before .before .before .before .before .pre .1 .0 .0), c .before .before .before .before .before .before .before .before .before .before .before .before .before .before .before .before .before .pre .1 .0 .1, c .before .before .before .before .before .before .before .before .before .before .before .loop-test .taken)) (c .before .before .before .before .before .before .before .before .before .before .vertex-at .ensures)) (le-of-lt (next-inside _ _ _ _ (c .before .before .before .before .before .before .before .before .before .before .before .before .before .before .before .before .before .pre .0 .rising) (zero-fits (c .before .before .before .before .before .before .before .before .before .before .before .before .before .before .before .before .before .args .side .now) (c .before .before .before .before .before .before .before .before .before .before .before .before .before .before .before .before .before .pre .1 .1)) (c .before .before .before .before .before .before .before .before .before .before .before .before .loop .inv) (omega (arith, length-side _ _ (c .before .before .before .before .before .before .before .before .before .before .before .before .before .before .before .before .before .pre .1 .0 .0), c .before .before .before .before .before .before .before .before .before .before .before .before .before .before .before .before .before .pre .1 .0 .1, c .before .before .before .before .before .before .before .before .before .before .before .loop-test .taken)) (c .before .before .before .before .before .before .before .before .before .before .vertex-at .ensures))) (next-later _ _ _ _ (c .before .before .before .before .before .before .before .before .before .before .before .before .before .before .before .before .before .pre .0 .rising) (zero-fits (c .before .before .before .before .before .before .before .before .before .before .before .before .before .before .before .before .before .args .side .now) (c .before .before .before .before .before .before .before .before .before .before .before .before .before .before .before .before .before .pre .1 .1)) (c .before .before .before .before .before .before .before .before .before .before .before .before .loop .inv) (omega (arith, length-side _ _ (c .before .before .before .before .before .before .before .before .before .before .before .before .before .before .before .before .before .pre .1 .0 .0), c .before .before .before .before .before .before .before .before .before .before .before .before .before .before .before .before .before .pre .1 .0 .1, c .before .before .before .before .before .before .before .before .before .before .before .loop-test .taken)) (c .before .before .before .before .before .before .before .before .before .before .vertex-at .ensures)) _ (c .before .before .before .before .before .before .before .before .copy-lists .ensures)) (next-inside _ _ _ _ (c .before .before .before .before .before .before .before .before .before .before .before .before .before .before .before .before .before .pre .0 .rising) (zero-fits (c .before .before .before .before .before .before .before .before .before .before .before .before .before .before .before .before .before .args .side .now) (c .before .before .before .before .before .before .before .before .before .before .before .before .before .before .before .before .before .pre .1 .1)) (c .before .before .before .before .before .before .before .before .before .before .before .before .loop .inv) (omega (arith, length-side _ _ (c .before .before .before .before .before .before .before .before .before .before .before .before .before .before .before .before .before .pre .1 .0 .0), c .before .before .before .before .before .before .before .before .before .before .before .before .before .before .before .before .before .pre .1 .0 .1, c .before .before .before .before .before .before .before .before .before .before .before .loop-test .taken)) (c .before .before .before .before .before .before .before .before .before .before .vertex-at .ensures)), (next-inside _ _ _ _ (c .before .before .before .before .before .before .before .before .before .before .before .before .before .before .before .before .before .pre .0 .rising) (zero-fits (c .before .before .before .before .before .before .before .before .before .before .before .before .before .before .before .before .before .args .side .now) (c .before .before .before .before .before .before .before .before .before .before .before .before .before .before .before .before .before .pre .1 .1)) (c .before .before .before .before .before .before .before .before .before .before .before .before .loop .inv) (omega (arith, length-side _ _ (c .before .before .before .before .before .before .before .before .before .before .before .before .before .before .before .before .before .pre .1 .0 .0), c .before .before .before .before .before .before .before .before .before .before .before .before .before .before .before .before .before .pre .1 .0 .1, c .before .before .before .before .before .before .before .before .before .before .before .loop-test .taken)) (c .before .before .before .before .before .before .before .before .before .before .vertex-at .ensures)))
 
 add-v : tie.Need-add-v Inv-loop μ-loop
-add-v c = search needs
+add-v c = omega (arith, (next-inside _ _ _ _ (c .before .before .before .before .before .before .before .before .before .before .before .before .before .before .before .before .before .pre .0 .rising) (zero-fits (c .before .before .before .before .before .before .before .before .before .before .before .before .before .before .before .before .before .args .side .now) (c .before .before .before .before .before .before .before .before .before .before .before .before .before .before .before .before .before .pre .1 .1)) (c .before .before .before .before .before .before .before .before .before .before .before .before .loop .inv) (omega (arith, length-side _ _ (c .before .before .before .before .before .before .before .before .before .before .before .before .before .before .before .before .before .pre .1 .0 .0), c .before .before .before .before .before .before .before .before .before .before .before .before .before .before .before .before .before .pre .1 .0 .1, c .before .before .before .before .before .before .before .before .before .before .before .loop-test .taken)) (c .before .before .before .before .before .before .before .before .before .before .vertex-at .ensures)), c .before .before .before .before .before .before .before .before .before .before .before .before .before .before .before .before .before .pre .1 .1 .few)
 
 loop-less : tie.Need-loop-less Inv-loop μ-loop
-loop-less c = search needs
+loop-less c = omega (arith, (next-above _ _ _ _ (c .before .before .before .before .before .before .before .before .before .before .before .before .before .before .before .before .before .pre .0 .rising) (zero-fits (c .before .before .before .before .before .before .before .before .before .before .before .before .before .before .before .before .before .args .side .now) (c .before .before .before .before .before .before .before .before .before .before .before .before .before .before .before .before .before .pre .1 .1)) (c .before .before .before .before .before .before .before .before .before .before .before .before .loop .inv) (omega (arith, length-side _ _ (c .before .before .before .before .before .before .before .before .before .before .before .before .before .before .before .before .before .pre .1 .0 .0), c .before .before .before .before .before .before .before .before .before .before .before .before .before .before .before .before .before .pre .1 .0 .1, c .before .before .before .before .before .before .before .before .before .before .before .loop-test .taken)) (c .before .before .before .before .before .before .before .before .before .before .vertex-at .ensures)), (next-inside _ _ _ _ (c .before .before .before .before .before .before .before .before .before .before .before .before .before .before .before .before .before .pre .0 .rising) (zero-fits (c .before .before .before .before .before .before .before .before .before .before .before .before .before .before .before .before .before .args .side .now) (c .before .before .before .before .before .before .before .before .before .before .before .before .before .before .before .before .before .pre .1 .1)) (c .before .before .before .before .before .before .before .before .before .before .before .before .loop .inv) (omega (arith, length-side _ _ (c .before .before .before .before .before .before .before .before .before .before .before .before .before .before .before .before .before .pre .1 .0 .0), c .before .before .before .before .before .before .before .before .before .before .before .before .before .before .before .before .before .pre .1 .0 .1, c .before .before .before .before .before .before .before .before .before .before .before .loop-test .taken)) (c .before .before .before .before .before .before .before .before .before .before .vertex-at .ensures)))
 
 loop-again : tie.Need-loop-again Inv-loop μ-loop
-loop-again c = siding-next _ _ _ _ (c .before .before .before .before .before .before .before .before .before .before .before .before .pre .0 .rising) (zero-fits (c .before .before .before .before .before .before .before .before .before .before .before .before .args .side .now) (c .before .before .before .before .before .before .before .before .before .before .before .before .pre .1 .1)) (c .before .before .before .before .before .before .before .loop .inv) (c .before .before .before .before .before .before .loop-test .taken) (c .before .before .before .before .before .neighbours .ensures ∙ c .before .before .before .before .before .before .before .before .before .before .before .before .pre .0 .lists _ (c .before .before .before .before .before .before .loop-test .taken)) (c .before .before .before .merge-list .ensures .0) (c .before .before .before .merge-list .ensures .1 .0) (c .before .before .before .merge-list .ensures .1 .1)
+loop-again c = siding-next _ _ _ _ (c .before .before .before .before .before .before .before .before .before .before .before .before .before .before .before .before .before .pre .0 .rising) (zero-fits (c .before .before .before .before .before .before .before .before .before .before .before .before .before .before .before .before .before .args .side .now) (c .before .before .before .before .before .before .before .before .before .before .before .before .before .before .before .before .before .pre .1 .1)) (siding-copied _ _ _ _ (c .before .before .before .before .before .before .before .before .before .before .before .before .before .before .before .before .before .pre .0 .rising) (zero-fits (c .before .before .before .before .before .before .before .before .before .before .before .before .before .before .before .before .before .args .side .now) (c .before .before .before .before .before .before .before .before .before .before .before .before .before .before .before .before .before .pre .1 .1)) (c .before .before .before .before .before .before .before .before .before .before .before .before .loop .inv) (next-above _ _ _ _ (c .before .before .before .before .before .before .before .before .before .before .before .before .before .before .before .before .before .pre .0 .rising) (zero-fits (c .before .before .before .before .before .before .before .before .before .before .before .before .before .before .before .before .before .args .side .now) (c .before .before .before .before .before .before .before .before .before .before .before .before .before .before .before .before .before .pre .1 .1)) (c .before .before .before .before .before .before .before .before .before .before .before .before .loop .inv) (omega (arith, length-side _ _ (c .before .before .before .before .before .before .before .before .before .before .before .before .before .before .before .before .before .pre .1 .0 .0), c .before .before .before .before .before .before .before .before .before .before .before .before .before .before .before .before .before .pre .1 .0 .1, c .before .before .before .before .before .before .before .before .before .before .before .loop-test .taken)) (c .before .before .before .before .before .before .before .before .before .before .vertex-at .ensures)) (le-of-lt (next-inside _ _ _ _ (c .before .before .before .before .before .before .before .before .before .before .before .before .before .before .before .before .before .pre .0 .rising) (zero-fits (c .before .before .before .before .before .before .before .before .before .before .before .before .before .before .before .before .before .args .side .now) (c .before .before .before .before .before .before .before .before .before .before .before .before .before .before .before .before .before .pre .1 .1)) (c .before .before .before .before .before .before .before .before .before .before .before .before .loop .inv) (omega (arith, length-side _ _ (c .before .before .before .before .before .before .before .before .before .before .before .before .before .before .before .before .before .pre .1 .0 .0), c .before .before .before .before .before .before .before .before .before .before .before .before .before .before .before .before .before .pre .1 .0 .1, c .before .before .before .before .before .before .before .before .before .before .before .loop-test .taken)) (c .before .before .before .before .before .before .before .before .before .before .vertex-at .ensures))) (next-later _ _ _ _ (c .before .before .before .before .before .before .before .before .before .before .before .before .before .before .before .before .before .pre .0 .rising) (zero-fits (c .before .before .before .before .before .before .before .before .before .before .before .before .before .before .before .before .before .args .side .now) (c .before .before .before .before .before .before .before .before .before .before .before .before .before .before .before .before .before .pre .1 .1)) (c .before .before .before .before .before .before .before .before .before .before .before .before .loop .inv) (omega (arith, length-side _ _ (c .before .before .before .before .before .before .before .before .before .before .before .before .before .before .before .before .before .pre .1 .0 .0), c .before .before .before .before .before .before .before .before .before .before .before .before .before .before .before .before .before .pre .1 .0 .1, c .before .before .before .before .before .before .before .before .before .before .before .loop-test .taken)) (c .before .before .before .before .before .before .before .before .before .before .vertex-at .ensures)) _ (c .before .before .before .before .before .before .before .before .copy-lists .ensures)) (next-inside _ _ _ _ (c .before .before .before .before .before .before .before .before .before .before .before .before .before .before .before .before .before .pre .0 .rising) (zero-fits (c .before .before .before .before .before .before .before .before .before .before .before .before .before .before .before .before .before .args .side .now) (c .before .before .before .before .before .before .before .before .before .before .before .before .before .before .before .before .before .pre .1 .1)) (c .before .before .before .before .before .before .before .before .before .before .before .before .loop .inv) (omega (arith, length-side _ _ (c .before .before .before .before .before .before .before .before .before .before .before .before .before .before .before .before .before .pre .1 .0 .0), c .before .before .before .before .before .before .before .before .before .before .before .before .before .before .before .before .before .pre .1 .0 .1, c .before .before .before .before .before .before .before .before .before .before .before .loop-test .taken)) (c .before .before .before .before .before .before .before .before .before .before .vertex-at .ensures)) (c .before .before .before .before .before .neighbours .ensures ∙ c .before .before .before .before .before .before .before .before .before .before .before .before .before .before .before .before .before .pre .0 .lists _ (next-inside _ _ _ _ (c .before .before .before .before .before .before .before .before .before .before .before .before .before .before .before .before .before .pre .0 .rising) (zero-fits (c .before .before .before .before .before .before .before .before .before .before .before .before .before .before .before .before .before .args .side .now) (c .before .before .before .before .before .before .before .before .before .before .before .before .before .before .before .before .before .pre .1 .1)) (c .before .before .before .before .before .before .before .before .before .before .before .before .loop .inv) (omega (arith, length-side _ _ (c .before .before .before .before .before .before .before .before .before .before .before .before .before .before .before .before .before .pre .1 .0 .0), c .before .before .before .before .before .before .before .before .before .before .before .before .before .before .before .before .before .pre .1 .0 .1, c .before .before .before .before .before .before .before .before .before .before .before .loop-test .taken)) (c .before .before .before .before .before .before .before .before .before .before .vertex-at .ensures))) (c .before .before .before .merge-list .ensures .0) (c .before .before .before .merge-list .ensures .1 .0) (c .before .before .before .merge-list .ensures .1 .1)
+
+copy-lists-requires-2 : tie.Need-copy-lists-requires-2 Inv-loop μ-loop
+copy-lists-requires-2 c κs = (c .before .before .before .before .before .before .before .pre .0, siding-copyable _ _ _ _ (c .before .before .before .before .before .before .before .pre .0 .rising) (zero-fits (c .before .before .before .before .before .before .before .args .side .now) (c .before .before .before .before .before .before .before .pre .1 .1)) (c .before .before .loop .inv) (c .before .before .loop .inv .written .within) (omega arith) (end-later _ _ _ _ (c .before .before .before .before .before .before .before .pre .0 .rising) (zero-fits (c .before .before .before .before .before .before .before .args .side .now) (c .before .before .before .before .before .before .before .pre .1 .1)) (c .before .before .loop .inv) (omega (arith, length-side _ _ (c .before .before .before .before .before .before .before .pre .1 .0 .0), c .before .before .before .before .before .before .before .pre .1 .0 .1, c .before .loop-test .left))))
 
 same-length : tie.Need-same-length Inv-loop μ-loop
-same-length c = c .before .loop .inv .long ∙ length-set (c .before .before .before .before .before .before .args .side .now) 0 0
+same-length c = siding-copied _ _ _ _ (c .before .before .before .before .before .before .before .before .before .before .pre .0 .rising) (zero-fits (c .before .before .before .before .before .before .before .before .before .before .args .side .now) (c .before .before .before .before .before .before .before .before .before .before .pre .1 .1)) (c .before .before .before .before .before .loop .inv) (c .before .before .before .before .before .loop .inv .written .within) (omega arith) (end-later _ _ _ _ (c .before .before .before .before .before .before .before .before .before .before .pre .0 .rising) (zero-fits (c .before .before .before .before .before .before .before .before .before .before .args .side .now) (c .before .before .before .before .before .before .before .before .before .before .pre .1 .1)) (c .before .before .before .before .before .loop .inv) (omega (arith, length-side _ _ (c .before .before .before .before .before .before .before .before .before .before .pre .1 .0 .0), c .before .before .before .before .before .before .before .before .before .before .pre .1 .0 .1, c .before .before .before .before .loop-test .left))) _ (c .before .before .copy-lists2 .ensures) .written .long ∙ length-set (c .before .before .before .before .before .before .before .before .before .before .args .side .now) 0 0
 
 returns : tie.Need-returns Inv-loop μ-loop
-returns c = zero-rest _ _ _ _ (siding-all _ _ _ _ (c .before .before .before .before .before .before .pre .0 .rising) (zero-fits (c .before .before .before .before .before .before .args .side .now) (c .before .before .before .before .before .before .pre .1 .1)) (c .before .loop .inv) (omega arith) (c .before .before .before .before .before .before .pre .0 .bounded))
+returns c = zero-rest _ _ _ _ (siding-all _ _ _ _ (c .before .before .before .before .before .before .before .before .before .before .pre .0 .rising) (zero-fits (c .before .before .before .before .before .before .before .before .before .before .args .side .now) (c .before .before .before .before .before .before .before .before .before .before .pre .1 .1)) (siding-copied _ _ _ _ (c .before .before .before .before .before .before .before .before .before .before .pre .0 .rising) (zero-fits (c .before .before .before .before .before .before .before .before .before .before .args .side .now) (c .before .before .before .before .before .before .before .before .before .before .pre .1 .1)) (c .before .before .before .before .before .loop .inv) (c .before .before .before .before .before .loop .inv .written .within) (omega arith) (end-later _ _ _ _ (c .before .before .before .before .before .before .before .before .before .before .pre .0 .rising) (zero-fits (c .before .before .before .before .before .before .before .before .before .before .args .side .now) (c .before .before .before .before .before .before .before .before .before .before .pre .1 .1)) (c .before .before .before .before .before .loop .inv) (omega (arith, length-side _ _ (c .before .before .before .before .before .before .before .before .before .before .pre .1 .0 .0), c .before .before .before .before .before .before .before .before .before .before .pre .1 .0 .1, c .before .before .before .before .loop-test .left))) _ (c .before .before .copy-lists2 .ensures)) (c .before .before .before .before .before .before .before .before .before .before .pre .0 .bounded))
 
 pub merge-side-spec : {M : Type 1} → statement M
 merge-side-spec =
@@ -85,6 +97,9 @@ merge-side-spec =
     μ-loop
     slice-write-side
     loop-holds
+    vertex-at-requires
+    copy-lists-requires
+    add-len
     neighbours-requires
     add-merge-list
     add-merge-list-2
@@ -93,7 +108,7 @@ merge-side-spec =
     part-merge-list-start
     part-merge-list-end
     merge-list-requires
-    add-len
+    add-len-2
     cast-side
     add-side
     mul-side
@@ -101,5 +116,6 @@ merge-side-spec =
     add-v
     loop-less
     loop-again
+    copy-lists-requires-2
     same-length
     returns)
