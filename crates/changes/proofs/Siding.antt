@@ -50,6 +50,12 @@ zero-rest ks cs n side e = e ∙ ap (λ (l : List ℕ). sideWords n (toggled ks 
 
 -- ---- vertices that no change touches
 
+-- The keys from some on are of vertices from u on, where v stands before.
+pub record Ahead (cs : List ℕ) (n v next u : ℕ) : Type 0 where
+  pub above : v ≤ u
+  pub inside : u ≤ n
+  pub later : all (λ (k : ℕ). not (ltb k (u * 16777216))) (drop next cs) ≡ true
+
 -- Where the keys from some on are of u or later, and those before are of vertices below v, none is between.
 module _ (cs : List ℕ) (up : ascending cs ≡ true) (v u : ℕ) {next : ℕ} (here : next ≡ below v cs)
     (later : all (λ (k : ℕ). not (ltb k (u * 16777216))) (drop next cs) ≡ true) where
@@ -104,54 +110,52 @@ module _ (ks cs : List ℕ) (n : ℕ) (side₀ : List ℕ) (up : ascending ks �
       }
 
   module _ {v : ℕ} {side : List ℕ} {next len : ℕ} (h : Siding ks cs n side₀ v side next len) where
-    -- The keys from the next one on are of the vertices from u on.
-    abbrev Later : ℕ → Type 0
-    Later u = all (λ (k : ℕ). not (ltb k (u * 16777216))) (drop next cs) ≡ true
-
-    ahead : Later v
+    ahead : all (λ (k : ℕ). not (ltb k (v * 16777216))) (drop next cs) ≡ true
     ahead = rw (h .its-next) (ahead-of cs (f .changes-ascend) v)
 
-    -- The vertex of the next change, or n after the last one.
+    -- Up to the vertex of the next change;
     module _ (l : next < length cs) {u : ℕ} (e : u ≡ getD cs next 0 / 16777216) where
       c-is : drop next cs ≡ getD cs next 0 ∷ drop (suc next) cs
       c-is = drop-cons cs next 0 l
-
-      pub next-above : v ≤ u
-      unfolding all
-      next-above =
-          let a : v * 16777216 ≤ getD cs next 0 = ltb-false _ _ (not-true _ (and-l (not (ltb (getD cs next 0) (v * 16777216))) _ (rw c-is at ahead))) in
-          omega arith
 
       pub next-inside : u < n
       next-inside =
           let a : getD cs next 0 < n * 16777216 = ltb-true _ _ (all-getD (λ (k : ℕ). ltb k (n * 16777216)) cs next 0 l (f .changes-bounded)) in
           omega arith
 
-      pub next-later : Later u
+      pub next-ahead : Ahead cs n v next u
       unfolding all
-      next-later =
-          rw c-is
-          (and-both (not (ltb (getD cs next 0) (u * 16777216))) _ (ap not (le-ltb (getD cs next 0) (u * 16777216) (omega arith)))
-          (all-follows (ltb (getD cs next 0)) (λ (k : ℕ). not (ltb k (u * 16777216))) (drop (suc next) cs)
-          (ascending-above (getD cs next 0) (drop (suc next) cs) (rw c-is at (ascending-drop next cs (f .changes-ascend))))
-          (λ k t. ap not (le-ltb k (u * 16777216) (omega (arith, ltb-true (getD cs next 0) k t))))))
+      next-ahead =
+          record {
+            above =
+                let a : v * 16777216 ≤ getD cs next 0 = ltb-false _ _ (not-true _ (and-l (not (ltb (getD cs next 0) (v * 16777216))) _ (rw c-is at ahead))) in
+                omega arith;
+            inside = omega (arith, next-inside);
+            later =
+                rw c-is
+                (and-both (not (ltb (getD cs next 0) (u * 16777216))) _ (ap not (le-ltb (getD cs next 0) (u * 16777216) (omega arith)))
+                (all-follows (ltb (getD cs next 0)) (λ (k : ℕ). not (ltb k (u * 16777216))) (drop (suc next) cs)
+                (ascending-above (getD cs next 0) (drop (suc next) cs) (rw c-is at (ascending-drop next cs (f .changes-ascend))))
+                (λ k t. ap not (le-ltb k (u * 16777216) (omega (arith, ltb-true (getD cs next 0) k t))))));
+          }
 
-    pub end-later : length cs ≤ next → Later n
+    -- after the last one, up to n.
+    pub end-ahead : length cs ≤ next → Ahead cs n v next n
     unfolding all
-    end-later l = rw (drop-of-length-le cs l)
+    end-ahead l = record { above = h .written .within; inside = omega arith; later = rw (drop-of-length-le cs l) }
 
     -- The lists up to u are copied.
-    module _ {u : ℕ} (l : v ≤ u) (m : u ≤ n) (later : Later u) where
-      pub siding-same : Untouched ks (toggled ks cs) v u
-      siding-same = untouched cs (f .changes-ascend) v u (h .its-next) later ks up
+    module _ {u : ℕ} (g : Ahead cs n v next u) where
+      same : Untouched ks (toggled ks cs) v u
+      same = untouched cs (f .changes-ascend) v u (h .its-next) (g .later) ks up
 
       total : len + (below u ks - below v ks) ≤ length (toggled ks cs)
       total =
           omega (
             arith,
             h .written .its-len,
-            between ks (toggled ks cs) up new-up siding-same u l (omega arith),
-            below-rises v u ks l,
+            between ks (toggled ks cs) up new-up same u (g .above) (omega arith),
+            below-rises v u ks (g .above),
             count-le (λ (k : ℕ). ltb k (u * 16777216)) (toggled ks cs),
           )
 
@@ -159,18 +163,17 @@ module _ (ks cs : List ℕ) (n : ℕ) (side₀ : List ℕ) (up : ascending ks �
       siding-copyable =
           record {
             few = f .few;
-            upward = l;
-            inside = m;
+            upward = g .above;
+            inside = g .inside;
             countable = omega (arith, total, f .countable);
             fits = omega (arith, total, f .fits, h .written .long);
           }
 
-      pub siding-copied : {out : List ℕ} (many : ℕ) → Copied ks n v u len side out many
-          → Siding ks cs n side₀ u out next (len + many)
+      pub siding-copied : {out : List ℕ} (many : ℕ) → Copied ks n v u len side out many → Siding ks cs n side₀ u out next (len + many)
       siding-copied many w =
           record {
-            written = w (toggled ks cs) side₀ new-up siding-same (h .written);
-            its-next = next-at cs (f .changes-ascend) v u (h .its-next) later u l (omega arith);
+            written = w (toggled ks cs) side₀ new-up same (h .written);
+            its-next = next-at cs (f .changes-ascend) v u (h .its-next) (g .later) u (g .above) (omega arith);
           }
 
     -- ---- the list of a vertex
