@@ -18,4 +18,5 @@ pub mod Filled
 pub mod Answers
 pub mod Loaded
 pub mod Reversed
+pub mod Encoded
 pub mod Reverse
