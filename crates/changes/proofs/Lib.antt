@@ -9,6 +9,7 @@ pub mod EditedGraph
 pub mod Merging
 pub mod Nexts
 pub mod Parting
+pub mod Copying
 pub mod Siding
 pub mod Present
 pub mod Directions
@@ -17,4 +18,5 @@ pub mod Filled
 pub mod Answers
 pub mod Loaded
 pub mod Reversed
+pub mod Encoded
 pub mod Reverse

@@ -51,7 +51,7 @@ module _ (ks cs : List ℕ) (up : ascending ks ≡ true) (rise : ascending cs �
 
 -- ---- a change and its reverse
 
-keys-turned : (cs : List Change) → map changeKey (map turned cs) ≡ map changeKey cs
+pub keys-turned : (cs : List Change) → map changeKey (map turned cs) ≡ map changeKey cs
 keys-turned cs = map-map changeKey turned cs
 
 -- After changes that apply, their reverses do.

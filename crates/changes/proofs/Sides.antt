@@ -3,21 +3,23 @@ use mathlib.Core.Path.{_≡_, sym, _∙_, ap}
 use mathlib.Core.Bool.{true}
 use mathlib.Core.List.{List, [], _++_, map, map-map}
 use Prim.Native.Nat.{ℕ, suc, _*_, _%_}
+use native.Mathlib.Omega.{arith}
 use lib.Dec.{ltb}
+use lib.ListN.{length-map}
 use borrow.Author.Tests.{lt-ltb}
 use Rattle.lists.specs.Lists.{range, all, count}
 use Rattle.lists.proofs.All.{all-follows}
 use Rattle.lists.proofs.Count.{all-map}
-use Rattle.lists.proofs.Sort.{all-sort}
+use Rattle.lists.proofs.Sort.{all-sort, length-sort}
 use Rattle.lists.proofs.Maps.{image-ext}
 use Rattle.graph.specs.Graph.{Edge, Graph, Direction, near, key}
 use Rattle.graph.specs.Store.{offsets, entries, graphIn, storeFault}
 use Rattle.graph.proofs.WellFormed.{WellFormed, fitting}
 use Rattle.graph.proofs.Keys.{near-in, key-below, sortedKeys, keys-ascend, keys-below}
 use Rattle.graph.proofs.VertexLists.{vertex-list}
-use Rattle.store.specs.inner.Side.{sideIn}
+use Rattle.store.specs.inner.Side.{verticesIn, edgesIn, sideIn}
 use Rattle.store.proofs.Listed.{store-list}
-use Rattle.store.proofs.Accepted.{graph-formed, list-within, list-on}
+use Rattle.store.proofs.Accepted.{side-ends, graph-formed, store-vertices, store-edges, store-length, offset-in, list-within, list-on}
 use Rattle.changes.specs.File.{changeCount, changesOf}
 use Rattle.changes.specs.Edit.{changeKey}
 use Rattle.changes.specs.inner.Merge.{entriesOf, sideKeys, sideWords, keysOn, SideOf}
@@ -42,6 +44,17 @@ module _ (old : List ℕ) (accepted : storeFault old ≡ 0) (d : Direction) wher
       record {
         within = list-within old accepted d;
         lists = λ v l. list-on old accepted d v l ∙ sym (store-list g w d v []) ∙ vertex-list g w d v [];
+        starts = λ v l. offset-in old accepted d v l ∙ keys-below g w d v;
+        whole =
+            omega (
+              arith,
+              length-sort (map (key d) (g .edges)),
+              length-map (g .edges) (key d),
+              side-ends d (verticesIn old) (edgesIn old),
+              store-vertices old accepted,
+              store-edges old accepted,
+              store-length old accepted,
+            );
         rising = keys-ascend g w d;
         bounded = keys-bounded g w d;
       }

@@ -2,12 +2,12 @@
 // the file has them for the forward side, or in a slice, which is then not empty.
 ghost use mathlib.Core.Path.{_≡_};
 ghost use mathlib.Core.List.{_++_};
-ghost use Prim.Native.Nat.{suc, _+_, _≤_, _<_};
+ghost use Prim.Native.Nat.{ℕ, suc, _+_, _-_, _/_, _≤_, _<_};
 ghost use lib.ListN.{length, getD, drop};
 ghost use Rattle.graph.specs.Graph.{entryEnd};
 ghost use Rattle.changes.specs.File.{changeCount};
 ghost use Rattle.changes.specs.inner.Toggle.{toggled};
-ghost use Rattle.changes.specs.inner.Merge.{entriesOf, sideKeys, Keyed, nextEntry, Mergeable, sideWords, keysOn, SideOf, Fitting};
+ghost use Rattle.changes.specs.inner.Merge.{entriesOf, sideKeys, Keyed, nextEntry, Mergeable, sideWords, keysOn, SideOf, Fitting, Copyable, Copied, Moved};
 use crate::file;
 use graph::Graph;
 use store::neighbours;
@@ -27,6 +27,14 @@ fn side_key(file: &[u8], keys: &[u64], j: usize) -> u64
         return file::change_key(file, j);
     }
     keys[j]
+}
+
+// The vertex of the j-th key.
+fn vertex_at(file: &[u8], keys: &[u64], j: usize) -> usize
+    requires { ⌜ Keyed (now file) (now keys) × (j < changeCount (now file)) ⌝ }
+    ensures { λ r. ⌜ r ≡ getD (sideKeys (now (file .entry)) (now (keys .entry))) j 0 / entryEnd ⌝ }
+{
+    (side_key(file, keys, j) / Graph::ENTRY_END as u64) as usize
 }
 
 // The entry in the j-th key where it is one of vertex v, else one above all entries.
@@ -101,7 +109,50 @@ fn merge_list(
     }
 }
 
-// A side of the old store, which begins at a word, merged with the changes: the offsets and the entries of the new side.
+// The first words of one slice, less one number and more another, copied to the front of a second.
+fn move_offsets(from: &[u32], count: usize, less: u32, more: u32, to: &mut [u32])
+    requires { ⌜ (count ≤ length (now from)) × (count ≤ length (now to)) × ((i : ℕ) → i < count → (less ≤ getD (now from) i 0) × (getD (now from) i 0 - less + more < 4294967296)) ⌝ }
+    ensures { λ _. ⌜ Moved (now (from .entry)) count less more (now (to .entry)) (now (to .exit)) ⌝ }
+{
+    let mut i = 0;
+    while i < count {
+        to[i] = from[i] - less + more;
+        i += 1;
+    }
+}
+
+// The lists of the vertices from v to before u copied at once after `len` entries, and their offsets moved. How many entries they are.
+fn copy_lists(
+    old: &[u32],
+    n: usize,
+    at: usize,
+    v: usize,
+    u: usize,
+    len: usize,
+    side: &mut [u32],
+) -> usize
+    requires { ⌜ SideOf (now old) n at (keysOn (now old) n at) × Copyable (keysOn (now old) n at) n v u len (length (now side)) ⌝ }
+    ensures { λ r. ⌜ Copied (keysOn (now (old .entry)) n at) n v u len (now (side .entry)) (now (side .exit)) r ⌝ }
+{
+    let first = old[at + v];
+    let count = (old[at + u] - first) as usize;
+    words::copy(
+        &old[at + n + 1 + first as usize..],
+        count,
+        &mut side[n + 1 + len..],
+    );
+    move_offsets(
+        &old[at + v + 1..],
+        u - v,
+        first,
+        len as u32,
+        &mut side[v + 1..],
+    );
+    count
+}
+
+// A side of the old store, which begins at a word, merged with the changes: the offsets and the entries of the new side. The list of each changed
+// vertex is merged, and those between are copied.
 pub fn merge_side(
     old: &[u32],
     n: usize,
@@ -121,12 +172,15 @@ pub fn merge_side(
     let mut next = 0;
     let mut len = 0;
     let mut v = 0;
-    while v < n {
-        let list = neighbours(old, n, at, v);
-        let merged = merge_list(list, file, keys, k, v, next, &mut side[n + 1 + len..]);
+    while next < k {
+        let u = vertex_at(file, keys, next);
+        len += copy_lists(old, n, at, v, u, len, side);
+        let list = neighbours(old, n, at, u);
+        let merged = merge_list(list, file, keys, k, u, next, &mut side[n + 1 + len..]);
         next = merged.next;
         len += merged.len;
-        side[v + 1] = len as u32;
-        v += 1;
+        side[u + 1] = len as u32;
+        v = u + 1;
     }
+    copy_lists(old, n, at, v, n, len, side);
 }
