@@ -7,13 +7,13 @@ ghost use lib.ListN.{length, take, drop};
 ghost use Rattle.graph.specs.Graph.{forward, backward};
 ghost use Rattle.graph.specs.Store.{storeOf, usedWords};
 ghost use Rattle.changes.specs.Edit.{editedGraph};
-ghost use Rattle.changes.specs.inner.Fill.{Accepted, wordsOn, sidesOf, HeadKept};
+ghost use Rattle.changes.specs.inner.Fill.{Accepted, manyChanges, wordsOn, sidesOf, HeadKept};
 use crate::backward;
 use crate::merge;
 use graph::Graph;
 
-// Few changes are fewer than this: the square of their number is at most that of the edges.
-const FEW: usize = 1024;
+// Few changes are fewer than this, since the square of their number is at most that of the edges.
+const MANY: usize = 1024;
 
 // The forward side.
 fn forward_side(old: &[u32], n: usize, file: &[u8], k: usize, side: &mut [u32])
@@ -27,19 +27,19 @@ fn forward_side(old: &[u32], n: usize, file: &[u8], k: usize, side: &mut [u32])
 
 // The backward side of few changes.
 fn backward_side(old: &[u32], n: usize, file: &[u8], k: usize, side: &mut [u32])
-    requires { ⌜ Accepted (now old) n (now file) k × (k < 1024) × (suc n + length (editedGraph (now old) (now file) .edges) ≤ length (now side)) ⌝ }
+    requires { ⌜ Accepted (now old) n (now file) k × (k < manyChanges) × (suc n + length (editedGraph (now old) (now file) .edges) ≤ length (now side)) ⌝ }
     ensures { λ _. ⌜ now (side .exit) ≡ wordsOn backward (editedGraph (now (old .entry)) (now (file .entry)))
         ++ drop (suc n + length (editedGraph (now (old .entry)) (now (file .entry)) .edges)) (now (side .entry)) ⌝ }
 {
     let at = Graph::of_store(old).backward();
-    let mut keys = [0u64; FEW];
+    let mut keys = [0u64; MANY];
     backward::backward_keys(file, k, &mut keys);
     merge::merge_side(old, n, at, file, &keys[..k], k, side);
 }
 
 // Both sides merged.
 fn merged_sides(old: &[u32], n: usize, file: &[u8], k: usize, m: usize, side: &mut [u32])
-    requires { ⌜ Accepted (now old) n (now file) k × (m ≡ length (editedGraph (now old) (now file) .edges)) × (k < 1024) × (n + 1 + m + (n + 1 + m) ≤ length (now side)) ⌝ }
+    requires { ⌜ Accepted (now old) n (now file) k × (m ≡ length (editedGraph (now old) (now file) .edges)) × (k < manyChanges) × (n + 1 + m + (n + 1 + m) ≤ length (now side)) ⌝ }
     ensures { λ _. ⌜ now (side .exit) ≡ sidesOf (editedGraph (now (old .entry)) (now (file .entry))) ++ drop (n + 1 + m + (n + 1 + m)) (now (side .entry)) ⌝ }
 {
     forward_side(old, n, file, k, side);

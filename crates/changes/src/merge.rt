@@ -1,5 +1,5 @@
-// Merging the lists of a side of the old store with the changes: what is in one of the two alone stays. The changes come by their keys, ascending: as
-// the file has them for the forward side, or in a slice, which is then not empty.
+// Merging the lists of a side of the old store with the changes: what is in one of the two alone stays. The changes come by their keys, ascending: in a
+// slice, or where that is empty as the file has them, which is the order of the forward side.
 ghost use mathlib.Core.Path.{_≡_};
 ghost use mathlib.Core.List.{_++_};
 ghost use Prim.Native.Nat.{ℕ, suc, _+_, _-_, _/_, _≤_, _<_};
