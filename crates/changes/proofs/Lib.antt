@@ -1,16 +1,22 @@
 -- Laws of changes: their file, and the edited graph.
 pub mod Reading
 pub mod Toggles
+pub mod Flips
+pub mod OtherKeys
+pub mod Inserting
 pub mod Edited
 pub mod EditedGraph
 pub mod Merging
 pub mod Nexts
 pub mod Parting
+pub mod Copying
 pub mod Siding
 pub mod Present
+pub mod Directions
 pub mod Sides
 pub mod Filled
 pub mod Answers
 pub mod Loaded
 pub mod Reversed
+pub mod Encoded
 pub mod Reverse

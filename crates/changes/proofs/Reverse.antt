@@ -1,34 +1,34 @@
 -- Applying a change file and then its reverse gives the old words back. Assumes nothing.
 use mathlib.Core.Path.{_≡_, refl, sym, _∙_, ap, ap₂}
-use mathlib.Core.Bool.{Bool, true, not}
-use mathlib.Core.List.{List, [], _∷_, _++_, map, map-map, map-id}
+use mathlib.Core.Bool.{true, not}
+use mathlib.Core.List.{List, _++_, map, map-map, map-id}
 use Prim.Native.Nat.{ℕ, _≤_, _<_}
 use native.Mathlib.Omega.{arith}
 use lib.Dec.{ltb}
-use lib.ListN.{length, take, drop}
+use lib.ListN.{length, take, drop, length-map}
 use lib.Seq.{take-at}
 use borrow.Author.Tests.{le-ltb}
-use Rattle.lists.specs.Lists.{all}
-use Rattle.lists.specs.Refusal.{refuse, first}
+use Rattle.lists.specs.Lists.{all, ascending}
+use Rattle.lists.specs.Refusal.{refuse}
 use Rattle.lists.proofs.Faults.{first-cons, first-one, zero-refuse}
+use Rattle.lists.proofs.Count.{all-map}
 use Rattle.lists.proofs.Maps.{map-under}
 use Rattle.graph.specs.Graph.{Edge, Graph, forward, key}
-use Rattle.graph.specs.Store.{graphIn, storeFault, storeOf, storeSize}
-use Rattle.graph.proofs.WellFormed.{WellFormed, fitting}
+use Rattle.graph.specs.Store.{graphIn, storeOf, storeSize}
+use Rattle.graph.proofs.WellFormed.{fitting}
 use Rattle.graph.proofs.Parts.{length-store}
 use Rattle.graph.proofs.Loads.{store-formed}
-use Rattle.store.proofs.Accepted.{graph-formed}
 use Rattle.changes.specs.File.{Change, changesOf, changeFault}
-use Rattle.changes.specs.Edit.{changeKey, keyEdge, keysOf, editedKeys, applies, applyChanges, editFault, editedGraph, applyFault, changedStore}
-use Rattle.changes.specs.Claims.{LoadsEdited, turned, Reverses}
+use Rattle.changes.specs.Edit.{keyEdge, keysOf, editedKeys, applies, applyChanges, editFault, editedGraph, applyFault, changedStore}
+use Rattle.changes.specs.Claims.{LoadsEdited, turned, ReverseOf, Reverses}
 use Rattle.changes.proofs.EditedGraph.{Applied, edge-key, key-edge, applied-keys}
 use Rattle.changes.proofs.Filled.{applied}
 use Rattle.changes.proofs.Answers.{accepted-all, store-is}
 use Rattle.changes.proofs.Loaded.{loads-edited}
-use Rattle.changes.proofs.Reversed.{turned-apply, edited-back}
+use Rattle.changes.proofs.Reversed.{keys-turned, turned-apply, edited-back}
+use Rattle.changes.proofs.Encoded.{encode, encode-bytes, encode-read, encode-accepted, changes-few}
 
-module _ (old s store back : List ℕ) (z : applyFault old s (length store) ≡ 0) (turns : changesOf back ≡ map turned (changesOf s))
-    (fits : changeFault (graphIn old .vertices) back ≡ 0) where
+module _ (old s store : List ℕ) (z : applyFault old s (length store) ≡ 0) where
   can : Applied (graphIn old) (changesOf s)
   can = applied (accepted-all old s (length store) z refl refl refl)
 
@@ -53,44 +53,57 @@ module _ (old s store back : List ℕ) (z : applyFault old s (length store) ≡ 
   unfolding applyChanges
   graph-back = λ i. record { vertices = graphIn old .vertices; labels = graphIn old .labels; days = graphIn old .days; edges = edges-back i }
 
-  edited-is : editedGraph (changedStore old s store) back ≡ graphIn old
-  edited-is = ap₂ applyChanges (loaded .spells) turns ∙ graph-back
-
   all-apply : all (applies (keysOf (editedGraph old s))) (map turned (changesOf s)) ≡ true
   all-apply =
       ap (λ (ks : List ℕ). all (applies ks) (map turned (changesOf s))) (applied-keys (graphIn old) (changesOf s) can)
       ∙ turned-apply (keysOf (graphIn old)) (changesOf s) (can .formed .edges-ascend) (can .changes-ascend) (can .all-apply)
 
-  edits-none : editFault (graphIn (changedStore old s store)) (changesOf back) ≡ 0
-  unfolding editFault
-  edits-none = ap₂ (λ (g : Graph) (cs : List Change). refuse 28 (not (all (applies (keysOf g)) cs))) (loaded .spells) turns ∙ rw all-apply
+  -- There is one.
+  one-back : (back : List ℕ) × ReverseOf old s back × (all (λ (b : ℕ). ltb b 256) back ≡ true)
+  one-back =
+      let n : ℕ = graphIn old .vertices in
+      let cs : List Change = map turned (changesOf s) in
+      let low : n < 65536 = can .formed .few-vertices in
+      let short : length cs < 1048576 = omega (arith, length-map (changesOf s) turned, changes-few s) in
+      let fit : all (λ (c : Change). fitting n (c .edge)) cs ≡ true = all-map (λ (c : Change). fitting n (c .edge)) turned (changesOf s) ∙ can .changes-fit in (
+        encode cs,
+        record { its-changes = encode-read n low cs short fit; accepted = encode-accepted n low cs short fit (ap ascending (keys-turned (changesOf s)) ∙ can .changes-ascend) },
+        encode-bytes cs,
+      )
 
-  vertices-kept : changeFault (graphIn (changedStore old s store) .vertices) back ≡ 0
-  unfolding applyChanges
-  vertices-kept = ap (λ (g : Graph). changeFault (g .vertices) back) (loaded .spells) ∙ fits
+  -- Whichever it is.
+  module _ (back : List ℕ) (r : ReverseOf old s back) where
+    edited-is : editedGraph (changedStore old s store) back ≡ graphIn old
+    edited-is = ap₂ applyChanges (loaded .spells) (r .its-changes) ∙ graph-back
 
-  few : refuse 29 (ltb 1048575 (length (editedGraph (changedStore old s store) back .edges))) ≡ 0
-  few =
-      ap (λ (g : Graph). refuse 29 (ltb 1048575 (length (g .edges)))) edited-is
-      ∙ zero-refuse 29 (ltb 1048575 (length (graphIn old .edges))) (le-ltb 1048575 (length (graphIn old .edges)) (omega (arith, can .formed .few-edges)))
+    edits-none : editFault (graphIn (changedStore old s store)) (changesOf back) ≡ 0
+    unfolding editFault
+    edits-none = ap₂ (λ (g : Graph) (cs : List Change). refuse 28 (not (all (applies (keysOf g)) cs))) (loaded .spells) (r .its-changes) ∙ rw all-apply
 
-  fault-is : (room : ℕ) → applyFault (changedStore old s store) back room ≡ refuse 5 (ltb room (storeSize (graphIn old)))
-  unfolding applyFault
-  fault-is room =
-      first-cons _ _ (loaded .not-refused) ∙ first-cons _ _ vertices-kept ∙ first-cons _ _ edits-none ∙ first-cons _ _ few ∙ first-one _
-      ∙ ap (λ (g : Graph). refuse 5 (ltb room (storeSize g))) edited-is
+    vertices-kept : changeFault (graphIn (changedStore old s store) .vertices) back ≡ 0
+    unfolding applyChanges
+    vertices-kept = ap (λ (g : Graph). changeFault (g .vertices) back) (loaded .spells) ∙ r .accepted
 
-  pub reverses : Reverses old s store back
-  reverses =
-      record {
-        its-graph = edited-is;
-        refused = fault-is;
-        words =
-            λ last l.
-            let size : ℕ = storeSize (graphIn old) in
-            ap (take size)
-            (sym (store-is (changedStore old s store) back last (fault-is (length last) ∙ zero-refuse 5 (ltb (length last) size) (le-ltb (length last) size l)))
-            ∙ ap (λ (g : Graph). storeOf g ++ drop (storeSize g) last) edited-is)
-            ∙ take-at (storeOf (graphIn old)) (drop size last) size (length-store (graphIn old) (can .formed .described))
-            ∙ sym (store-formed old (accepted-all old s (length store) z refl refl refl .store) .1);
-      }
+    few : refuse 29 (ltb 1048575 (length (editedGraph (changedStore old s store) back .edges))) ≡ 0
+    few =
+        ap (λ (g : Graph). refuse 29 (ltb 1048575 (length (g .edges)))) edited-is
+        ∙ zero-refuse 29 (ltb 1048575 (length (graphIn old .edges))) (le-ltb 1048575 (length (graphIn old .edges)) (omega (arith, can .formed .few-edges)))
+
+    fault-is : (room : ℕ) → applyFault (changedStore old s store) back room ≡ refuse 5 (ltb room (storeSize (graphIn old)))
+    unfolding applyFault
+    fault-is room =
+        first-cons _ _ (loaded .not-refused) ∙ first-cons _ _ vertices-kept ∙ first-cons _ _ edits-none ∙ first-cons _ _ few ∙ first-one _
+        ∙ ap (λ (g : Graph). refuse 5 (ltb room (storeSize g))) edited-is
+
+    words-back : (last : List ℕ) → storeSize (graphIn old) ≤ length last
+        → take (storeSize (graphIn old)) (changedStore (changedStore old s store) back last) ≡ take (storeSize (graphIn old)) old
+    words-back last l =
+        let size : ℕ = storeSize (graphIn old) in
+        ap (take size)
+        (sym (store-is (changedStore old s store) back last (fault-is (length last) ∙ zero-refuse 5 (ltb (length last) size) (le-ltb (length last) size l)))
+        ∙ ap (λ (g : Graph). storeOf g ++ drop (storeSize g) last) edited-is)
+        ∙ take-at (storeOf (graphIn old)) (drop size last) size (length-store (graphIn old) (can .formed .described))
+        ∙ sym (store-formed old (accepted-all old s (length store) z refl refl refl .store) .1)
+
+  pub reverses : Reverses old s store
+  reverses = record { one = one-back; refused = fault-is; words = words-back }

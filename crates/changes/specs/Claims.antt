@@ -1,7 +1,7 @@
--- What a reader wants of applied changes: the new store is as loaded. Assumes nothing.
+-- What a reader wants of applied changes: the new store is as loaded, and they can be undone. Assumes nothing.
 use mathlib.Core.Path.{_≡_}
 use mathlib.Core.Bool.{true, not}
-use mathlib.Core.List.{List}
+use mathlib.Core.List.{List, map}
 use Prim.Native.Nat.{ℕ, _≤_}
 use lib.Dec.{ltb}
 use lib.ListN.{length, take}
@@ -9,7 +9,7 @@ use Rattle.lists.specs.Lists.{all}
 use Rattle.graph.specs.File.{graphOf}
 use Rattle.lists.specs.Refusal.{refuse}
 use Rattle.graph.specs.Store.{storeSize, loadFault, loadStore, graphIn, storeFault}
-use Rattle.changes.specs.File.{Change}
+use Rattle.changes.specs.File.{Change, changesOf, changeFault}
 use Rattle.changes.specs.Edit.{editedGraph, applyFault, changedStore}
 
 -- 'As by loading the edited graph': there is a file, of bytes, of the edited graph; Load accepts it and leaves the same words. So the new store
@@ -27,10 +27,16 @@ pub record LoadsEdited (old s store : List ℕ) : Type 0 where
 abbrev pub turned : Change → Change
 turned c = record { adds = not (c .adds); edge = c .edge }
 
--- 'Applying a change file and then its reverse gives the old words back': of a file that holds the reverse changes, nothing is refused but a store that
--- is too small, and the words are the old store's.
-pub record Reverses (old s store back : List ℕ) : Type 0 where
-  pub its-graph : editedGraph (changedStore old s store) back ≡ graphIn old
-  pub refused : (room : ℕ) → applyFault (changedStore old s store) back room ≡ refuse 5 (ltb room (storeSize (graphIn old)))
-  pub words : (last : List ℕ) → storeSize (graphIn old) ≤ length last
+-- A file that holds the reverse of a file's changes, and that 27 does not turn away.
+pub record ReverseOf (old s back : List ℕ) : Type 0 where
+  pub its-changes : changesOf back ≡ map turned (changesOf s)
+  pub accepted : changeFault (graphIn old .vertices) back ≡ 0
+
+-- 'Applying a change file and then its reverse gives the old words back': there is such a file, of bytes; of every such file nothing is refused but a
+-- store that is too small, and the words are the old store's.
+pub record Reverses (old s store : List ℕ) : Type 0 where
+  pub one : (back : List ℕ) × ReverseOf old s back × (all (λ (b : ℕ). ltb b 256) back ≡ true)
+  pub refused : (back : List ℕ) → ReverseOf old s back
+      → (room : ℕ) → applyFault (changedStore old s store) back room ≡ refuse 5 (ltb room (storeSize (graphIn old)))
+  pub words : (back : List ℕ) → ReverseOf old s back → (last : List ℕ) → storeSize (graphIn old) ≤ length last
       → take (storeSize (graphIn old)) (changedStore (changedStore old s store) back last) ≡ take (storeSize (graphIn old)) old

@@ -1,7 +1,7 @@
 // Refusal 28: adding a present edge or taking an absent one.
 ghost use mathlib.Core.Path.{_≡_};
 ghost use mathlib.Core.Bool.{true};
-ghost use Prim.Native.Nat.{_+_, _≤_, _<_};
+ghost use Prim.Native.Nat.{_≤_, _<_};
 ghost use lib.Dec.{eqb};
 ghost use Rattle.lists.specs.Lists.{bit, any, ascending, range, count};
 ghost use Rattle.search.specs.inner.Search.{firstFrom};
@@ -11,25 +11,27 @@ ghost use Rattle.changes.specs.Edit.{editFault};
 ghost use Rattle.changes.specs.inner.Reading.{Sized};
 ghost use Rattle.changes.specs.inner.Edits.{Editable};
 use crate::file;
-use search::seek;
+use search::lower_bound;
+use search::walk_up;
 use store::neighbours;
 
-// The first index of an ascending list whose word is not below x: from the guess on, where the word before it is below x. Changes of one
-// vertex ascend, so that the place of one is a guess for the next, and all of them together walk a list once. Any guess will do.
+// The first index of an ascending list whose word is not below x: word by word from the guess on, where the word before it is below x, else by
+// a search. Changes of one vertex ascend, so that the place of one is a guess for the next, and all of them together walk a list once. Any guess
+// will do. (`search::seek` would do for both, but a second caller takes it out of the walk along two lists.)
 fn place(list: &[u32], x: u32, guess: usize) -> usize
     requires { ⌜ ascending (now list) ≡ true ⌝ }
     ensures { λ r. ⌜ r ≡ firstFrom (now (list .entry)) 0 x ⌝ }
 {
     if guess == 0 {
-        return seek(list, 0, x);
+        return lower_bound(list, x);
     }
     if list.len() < guess {
-        return seek(list, 0, x);
+        return lower_bound(list, x);
     }
     if x <= list[guess - 1] {
-        return seek(list, 0, x);
+        return lower_bound(list, x);
     }
-    seek(list, guess, x)
+    walk_up(list, guess, x)
 }
 
 // 1 where x stands at its place in an ascending list, else 0.

@@ -1,20 +1,21 @@
 // The runs of a plan, against the matcher and against each other.
 use crate::records;
 use crate::runs;
-use crate::runs::Files;
-use crate::runs::LIST_WORDS;
-use crate::runs::Lent;
-use crate::runs::List;
-use crate::runs::Store;
+use crate::runs::*;
 use crate::slices::same_words;
 use crate::tally;
 use crate::tally::Tally;
 use crate::ticks;
 use crate::ticks::Matches;
-use judge_inputs::bits::add;
-use judge_inputs::bits::sub;
+use judge_inputs::bits::*;
 use judge_inputs::graphs::Graph;
 use run::RunAnswer;
+
+// What the runs of a plan are lent, and what the first one answered.
+struct Ran {
+    with: Lent,
+    answer: RunAnswer,
+}
 
 // Another run of a plan, which gives `refusal`, if that is not 0, or does as the first: the same rows in the same order, the same
 // counts, and a cost no higher, without the cache the same. Answers the run's refusal.
@@ -41,15 +42,9 @@ fn judge_again(
 }
 
 // Lengths of scratch ever closer to the need: those below `short` give 20, and it grows by ever smaller steps until it serves.
-fn judge_scratch(
-    store: &Store,
-    files: &Files,
-    with: Lent,
-    a: RunAnswer,
-    first: &List,
-    tally: &mut Tally,
-) {
-    let mut w = with;
+fn judge_scratch(store: &Store, files: &Files, ran: Ran, first: &List, tally: &mut Tally) {
+    let a = ran.answer;
+    let mut w = ran.with;
     let mut short = 0;
     for k in 0..14usize {
         let step = 8192usize >> (k % 32);
@@ -61,37 +56,25 @@ fn judge_scratch(
 }
 
 // A list of just the rows' words serves as well; one a word shorter gives 21.
-fn judge_list(
-    store: &Store,
-    files: &Files,
-    with: Lent,
-    a: RunAnswer,
-    first: &List,
-    tally: &mut Tally,
-) {
-    let mut w = with;
-    judge_again(store, files, with, a, first, 0, tally::LIST, tally);
-    if 0 < with.list {
-        w.list = sub(with.list, 1);
+fn judge_list(store: &Store, files: &Files, ran: Ran, first: &List, tally: &mut Tally) {
+    let a = ran.answer;
+    let mut w = ran.with;
+    judge_again(store, files, w, a, first, 0, tally::LIST, tally);
+    if 0 < w.list {
+        w.list = sub(w.list, 1);
         let refusal = judge_again(store, files, w, a, first, 21, tally::LIST, tally);
         tally::judge(tally, tally::LIST, refusal == 21);
     }
 }
 
 // As many records as the plan has operators serve as well; one fewer gives 22, also where the list is too short.
-fn judge_records(
-    store: &Store,
-    files: &Files,
-    with: Lent,
-    a: RunAnswer,
-    first: &List,
-    tally: &mut Tally,
-) {
-    let mut w = with;
+fn judge_records(store: &Store, files: &Files, ran: Ran, first: &List, tally: &mut Tally) {
+    let a = ran.answer;
+    let mut w = ran.with;
     w.records = records::operators(files);
     judge_again(store, files, w, a, first, 0, tally::RECORDS, tally);
     w.records = sub(w.records, 1);
-    w.list = with.list / 2;
+    w.list = w.list / 2;
     let refusal = judge_again(store, files, w, a, first, 22, tally::RECORDS, tally);
     tally::judge(tally, tally::RECORDS, refusal == 22);
 }
@@ -124,8 +107,9 @@ pub fn judge_plan(
     }
     w.cache = plans == 1;
     w.list = runs::row_words(a.rows, with.width);
-    judge_list(store, files, w, a, &first, tally);
-    judge_records(store, files, w, a, &first, tally);
-    judge_scratch(store, files, w, a, &first, tally);
+    let ran = Ran { with: w, answer: a };
+    judge_list(store, files, ran, &first, tally);
+    judge_records(store, files, ran, &first, tally);
+    judge_scratch(store, files, ran, &first, tally);
     true
 }

@@ -1,18 +1,11 @@
-// Damaged files and stores through the four operations.
+// Damaged files and stores through the five operations.
 use crate::runs;
-use crate::runs::Files;
-use crate::runs::Lent;
-use crate::runs::PLAN;
-use crate::runs::Store;
+use crate::runs::*;
 use crate::slices::part;
 use crate::tally;
 use crate::tally::DAMAGED;
 use crate::tally::Tally;
-use judge_inputs::bits::add;
-use judge_inputs::bits::bytes_for;
-use judge_inputs::bits::flip;
-use judge_inputs::bits::put_field;
-use judge_inputs::bits::sub;
+use judge_inputs::bits::*;
 use judge_inputs::graphs;
 use judge_inputs::graphs::Graph;
 use judge_inputs::queries;
@@ -140,12 +133,9 @@ fn judge_pair(
     turn_pair(q, files, pair);
     let other = refusal_of(store, files, with, tally);
     flip(files, edge, 1);
-    let due = if (other == 9) | (other == 10) {
-        other
-    } else {
-        26
-    };
-    tally::judge(tally, DAMAGED, (given == due) | !bad);
+    let faulty = (other == 9) | (other == 10);
+    let due = (faulty & (given == other)) | (!faulty & (given == 26));
+    tally::judge(tally, DAMAGED, due | !bad);
 }
 
 // A bit of a day in the store of n vertices turned over gives 19 where the day is then above 65,535, and else not.
@@ -157,7 +147,7 @@ fn judge_day(
     seed: &mut u64,
     tally: &mut Tally,
 ) {
-    let i = add(add(2, n), below(seed, n)) % runs::STORE_WORDS;
+    let i = add(add(2, n), below(seed, n)) % runs::LIST_WORDS;
     let bit = below(seed, 32) % 32;
     if n == 0 {
         return;
@@ -188,7 +178,7 @@ pub fn judge_run(
     judge_bit(store, files, w, below(seed, w.query % PLAN * 8), tally);
     let plan = PLAN * 8 + below(seed, w.plan % PLAN * 8) % 512;
     judge_bit(store, files, w, plan, tally);
-    let i = below(seed, w.store) % runs::STORE_WORDS;
+    let i = below(seed, w.store) % runs::LIST_WORDS;
     let bit = 1u32 << (below(seed, 32) % 32);
     store[i] = store[i] ^ bit;
     refusal_of(store, files, w, tally);
@@ -196,20 +186,28 @@ pub fn judge_run(
 }
 
 // Load of a graph file a byte short, a byte long and with a bit turned over.
-pub fn judge_load(
-    file: &mut [u8],
-    bytes: usize,
-    store: &mut Store,
-    words: usize,
-    seed: &mut u64,
-    tally: &mut Tally,
-) {
-    let short = runs::load(file, sub(bytes, 1), store, words, tally);
+pub fn judge_load(file: &mut [u8], bytes: usize, words: usize, seed: &mut u64, tally: &mut Tally) {
+    let mut store = [0u32; runs::LIST_WORDS];
+    let short = runs::load(part(file, 0, sub(bytes, 1)), &mut store, words, tally);
     tally::judge(tally, DAMAGED, short.refusal == 1);
-    let long = runs::load(file, add(bytes, 1), store, words, tally);
+    let long = runs::load(part(file, 0, add(bytes, 1)), &mut store, words, tally);
     tally::judge(tally, DAMAGED, long.refusal == 2);
-    let bit = below(seed, bytes % 65536 * 8);
-    flip(file, bit, 1);
-    let flipped = runs::load(file, bytes, store, words, tally);
+    flip(file, below(seed, bytes % 65536 * 8), 1);
+    let flipped = runs::load(part(file, 0, bytes), &mut store, words, tally);
     tally::judge(tally, DAMAGED, flipped.refusal < 6);
+}
+
+// What changes to the first words of a store are refused with.
+pub fn judge_unfit(old: &Store, used: usize, file: &[u8], refusal: u32, tally: &mut Tally) {
+    let mut store = [0u32; runs::LIST_WORDS];
+    let a = runs::apply(old, used, file, &mut store, runs::MAX_LIST, tally);
+    tally::judge(tally, DAMAGED, a.refusal == refusal);
+}
+
+// Changes, with a byte more, a byte less, and to a store without its last word.
+pub fn judge_changes(old: &Store, used: usize, long: &[u8], tally: &mut Tally) {
+    let bytes = sub(long.len(), 1);
+    judge_unfit(old, used, long, 27, tally);
+    judge_unfit(old, used, part(long, 0, sub(bytes, 1)), 27, tally);
+    judge_unfit(old, sub(used, 1), part(long, 0, bytes), 19, tally);
 }

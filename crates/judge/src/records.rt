@@ -46,33 +46,18 @@ fn are_marked(records: [Record; COUNT], from: usize) -> bool {
     true
 }
 
-// The sum of the costs of so many records.
-fn cost_of(records: [Record; COUNT], count: usize) -> u64 {
-    let mut sum = 0;
-    for i in 0..COUNT {
-        let r = records[i];
-        if i < count {
-            sum = std::num::wrapping_add_u64(sum, r.cost);
-        }
-    }
-    sum
-}
-
-// The rows of the last of so many records.
-fn last_rows(records: [Record; COUNT], count: usize) -> u64 {
+// The costs of so many records add up to the answer's, and the last one's rows are the answer's.
+fn adds_up(records: [Record; COUNT], count: usize, a: RunAnswer) -> bool {
+    let mut cost = 0;
     let mut rows = 0;
     for i in 0..COUNT {
         let r = records[i];
         if i < count {
+            cost = std::num::wrapping_add_u64(cost, r.cost);
             rows = r.rows;
         }
     }
-    rows
-}
-
-// The costs add up to the answer's, and the last record's rows are the answer's.
-fn adds_up(records: [Record; COUNT], count: usize, a: RunAnswer) -> bool {
-    (cost_of(records, count) == a.cost) & (last_rows(records, count) == a.rows as u64)
+    (cost == a.cost) & (rows == a.rows as u64)
 }
 
 // Of a run of a plan of so many operators: refused, no record is touched; accepted, none past the last operator, and they add up.

@@ -1,8 +1,6 @@
 // Load and Run over marked words, with what they leave there judged.
 use crate::records;
-use crate::slices::all_are;
-use crate::slices::least;
-use crate::slices::part;
+use crate::slices::*;
 use crate::tally;
 use crate::tally::Tally;
 use judge_inputs::bits::add;
@@ -19,8 +17,6 @@ pub const MAX_SCRATCH: usize = 16384;
 
 pub const MAX_LIST: usize = 16384;
 
-pub const STORE_WORDS: usize = 3840;
-
 pub const LIST_WORDS: usize = MAX_LIST + MARGIN;
 
 pub const FILE_BYTES: usize = 168;
@@ -28,9 +24,9 @@ pub const FILE_BYTES: usize = 168;
 // Where the plan's file begins, after the query's.
 pub const PLAN: usize = 104;
 
-pub type Store = [u32; STORE_WORDS];
-
 pub type List = [u32; LIST_WORDS];
+
+pub type Store = List;
 
 pub type Files = [u8; FILE_BYTES];
 
@@ -77,13 +73,6 @@ fn is_marked(s: &[u32], from: usize, lent: usize) -> bool {
     all_are(s, from, add(lent, MARGIN), MARK)
 }
 
-// Refused, every other number is 0.
-fn judge_answer(a: RunAnswer, tally: &mut Tally) {
-    let zeros = (a.rows == 0) & (a.cost == 0) & (a.build == 0) & (a.probe == 0);
-    tally::count_refusal(tally, a.refusal);
-    tally::judge(tally, tally::REFUSED, (a.refusal == 0) | zeros);
-}
-
 // A run over marked words of scratch and list and marked records. It clears the scratch, and touches no word of the list past the
 // last row, no record past the last operator, and nothing past what it is lent.
 pub fn run(
@@ -102,14 +91,9 @@ pub fn run(
     let untouched = is_marked(&scratch, words, words) & is_marked(list, rows, with.list);
     tally::judge(tally, tally::CLEARED, all_are(&scratch, 0, words, 0));
     tally::judge(tally, tally::UNTOUCHED, untouched);
-    judge_answer(a, tally);
+    let zeros = (a.rows == 0) & (a.cost == 0) & (a.build == 0) & (a.probe == 0);
+    tally::judge_refusal(tally, a.refusal, zeros);
     a
-}
-
-// The one call of Load.
-fn lend_store(file: &[u8], bytes: usize, store: &mut [u32], words: usize) -> Loaded {
-    let room = least(words, store.len());
-    load::load(part(file, 0, bytes), &mut store[0..room])
 }
 
 // The words of the store of N vertices and M edges.
@@ -117,22 +101,47 @@ pub fn store_words(n: usize, m: usize) -> usize {
     n % 65536 * 4 + m % 1048576 * 2 + 4
 }
 
-// Load of a file's first bytes to so many marked words. It touches none past the used ones, and none at all where it is refused.
-pub fn load(
+// What Load or Apply changes leaves of so many marked words: it touches none past the used ones, and none at all where it is refused.
+fn judge_store(a: Loaded, store: &Store, words: usize, tally: &mut Tally) {
+    let zeros = (a.vertices == 0) & (a.edges == 0);
+    let counted = store_words(a.vertices, a.edges);
+    let used = if a.refusal == 0 { counted } else { 0 };
+    tally::judge(tally, tally::UNTOUCHED, is_marked(store, used, words));
+    tally::judge_refusal(tally, a.refusal, zeros);
+}
+
+// The one call of Load.
+fn lend_store(file: &[u8], store: &mut [u32], words: usize) -> Loaded {
+    let room = least(words, store.len());
+    load::load(file, &mut store[0..room])
+}
+
+// Load of a file to so many marked words.
+pub fn load(file: &[u8], store: &mut Store, words: usize, tally: &mut Tally) -> Loaded {
+    *store = [MARK; LIST_WORDS];
+    let a = lend_store(file, store, words);
+    judge_store(a, store, words, tally);
+    a
+}
+
+// The one call of Apply changes.
+fn lend_stores(old: &[u32], used: usize, file: &[u8], store: &mut [u32], words: usize) -> Loaded {
+    let given = least(used, old.len());
+    let room = least(words, store.len());
+    changes::apply_changes(&old[0..given], file, &mut store[0..room])
+}
+
+// Apply changes to the first words of an old store, to so many marked ones.
+pub fn apply(
+    old: &Store,
+    used: usize,
     file: &[u8],
-    bytes: usize,
     store: &mut Store,
     words: usize,
     tally: &mut Tally,
 ) -> Loaded {
-    *store = [MARK; STORE_WORDS];
-    let a = lend_store(file, bytes, store, words);
-    let accepted = a.refusal == 0;
-    let zeros = (a.vertices == 0) & (a.edges == 0);
-    let counted = store_words(a.vertices, a.edges);
-    let used = if accepted { counted } else { 0 };
-    tally::count_refusal(tally, a.refusal);
-    tally::judge(tally, tally::UNTOUCHED, is_marked(store, used, words));
-    tally::judge(tally, tally::REFUSED, accepted | zeros);
+    *store = [MARK; LIST_WORDS];
+    let a = lend_stores(old, used, file, store, words);
+    judge_store(a, store, words, tally);
     a
 }

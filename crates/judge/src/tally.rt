@@ -30,6 +30,8 @@ pub const DAMAGED: usize = 10;
 
 pub const RECORDS: usize = 11;
 
+pub const CHANGED: usize = 12;
+
 // What the stream had.
 pub const GRAPHS: usize = 32;
 
@@ -57,10 +59,6 @@ pub fn count(tally: &mut Tally, at: usize, more: u64) {
     tally[at % WORDS] = std::num::wrapping_add_u64(tally[at % WORDS], more);
 }
 
-pub fn count_refusal(tally: &mut Tally, refusal: u32) {
-    count(tally, REFUSALS + refusal as usize % 32, 1);
-}
-
 fn print_count(name: &[u8], value: u64) {
     io::write_all(STDOUT_FILENO, name);
     io::print_decimal(STDOUT_FILENO, value);
@@ -78,6 +76,12 @@ pub fn judge(tally: &mut Tally, kind: usize, same: bool) {
     io::write_all(STDOUT_FILENO, b"\n");
 }
 
+// Counts an answer's refusal. Refused, its other numbers are to be zeros.
+pub fn judge_refusal(tally: &mut Tally, refusal: u32, zeros: bool) {
+    count(tally, REFUSALS + refusal as usize % 32, 1);
+    judge(tally, REFUSED, (refusal == 0) | zeros);
+}
+
 fn print_kind(name: &[u8], tally: &Tally, kind: usize) {
     io::write_all(STDOUT_FILENO, name);
     print_count(b" compared ", tally[kind % 16 * 2]);
@@ -91,6 +95,7 @@ fn print_rows(tally: &Tally) {
     print_kind(b"rows against the matcher", tally, MATCHED);
     print_kind(b"two plans of a query", tally, PAIRS);
     print_kind(b"cache on against off", tally, CACHE);
+    print_kind(b"changes against loading, and back", tally, CHANGED);
 }
 
 fn print_words(tally: &Tally) {
@@ -117,7 +122,7 @@ fn print_stream(tally: &Tally) {
 
 fn print_refusals(tally: &Tally) {
     io::write_all(STDOUT_FILENO, b"\nrefusals");
-    for k in 1..27 {
+    for k in 1..30 {
         print_count(b" ", k);
         print_count(b":", tally[REFUSALS + k as usize % 32]);
     }

@@ -26,7 +26,7 @@ fn set_query(q: &mut Query, n: usize, m: usize, first: usize, apart: usize) {
 // list its matches.
 fn judge_over(q: &Query, places: usize, percent: usize, seed: &mut u64, tally: &mut Tally) {
     let mut g = [0usize; graphs::WORDS];
-    let mut store = [0u32; runs::STORE_WORDS];
+    let mut store = [0u32; runs::LIST_WORDS];
     let mut copy = *q;
     graphs::draw(&mut g, places, 4, percent, seed);
     let words = stream::load_graph(&g, &mut store, seed, tally);

@@ -1,11 +1,7 @@
 // A graph: up to 16 vertices that may have edges, named by their places, and spread over the numbers below N. It is one array: the
 // words named below, then a cell for each source, label and target, in the file's order, which is 1 where the edge is there.
-use crate::bits::add;
-use crate::bits::bytes_for;
-use crate::bits::put_field;
-use crate::bits::sub;
-use crate::random::below;
-use crate::random::chance;
+use crate::bits::*;
+use crate::random::*;
 
 pub type Graph = [usize; WORDS];
 
@@ -24,10 +20,8 @@ const FIRST: usize = 3;
 
 const SHIFT: usize = 4;
 
-// How many edge labels are used, and how often of a hundred an edge is drawn.
+// How many edge labels are used.
 const EDGE_LABELS: usize = 5;
-
-const PERCENT: usize = 6;
 
 // Two bits of this word for each place choose its label, and two of the next its day.
 const LABELS: usize = 7;
@@ -83,26 +77,24 @@ pub fn has(g: &Graph, s: usize, l: usize, t: usize) -> bool {
     g[CELLS + s % 16 * 64 + l % 4 * 16 + t % 16] == 1
 }
 
-// Draws the edge of a cell. Place 0 is a hub: its edges are drawn twice as often.
-fn draw_edge(g: &mut Graph, cell: usize, seed: &mut u64) {
+// Turns the edge of a cell over, as often as is drawn. Place 0 is a hub: its edges are turned over twice as often.
+fn turn_edge(g: &mut Graph, cell: usize, percent: usize, seed: &mut u64) {
     let places = g[PLACES];
-    let percent = if cell < 64 {
-        add(g[PERCENT], g[PERCENT])
-    } else {
-        g[PERCENT]
-    };
+    let at = CELLS + cell % CELL_COUNT;
+    let percents = [percent, add(percent, percent)];
     if (places <= cell / 64) | (places <= cell % 16) | (g[EDGE_LABELS] <= cell / 16 % 4) {
         return;
     }
-    if chance(seed, percent) {
-        g[CELLS + cell % CELL_COUNT] = 1;
-        g[EDGES] = add(g[EDGES], 1);
+    if chance(seed, percents[(cell < 64) as usize % 2]) {
+        g[at] = g[at] ^ 1;
+        g[EDGES] = sub(add(g[EDGES], add(g[at], g[at])), 1);
     }
 }
 
-fn draw_edges(g: &mut Graph, seed: &mut u64) {
+// Turns each edge over so many times of a hundred: those that are there go, and others come.
+pub fn turn_edges(g: &mut Graph, percent: usize, seed: &mut u64) {
     for cell in 0..CELL_COUNT {
-        draw_edge(g, cell, seed);
+        turn_edge(g, cell, percent, seed);
     }
 }
 
@@ -124,7 +116,6 @@ pub fn draw(g: &mut Graph, places: usize, edge_labels: usize, percent: usize, se
     *g = [0; WORDS];
     g[PLACES] = places;
     g[EDGE_LABELS] = edge_labels;
-    g[PERCENT] = percent;
     if chance(seed, 50) {
         g[LABELS] = below(seed, 4294967296);
     }
@@ -132,7 +123,7 @@ pub fn draw(g: &mut Graph, places: usize, edge_labels: usize, percent: usize, se
         g[DAYS] = below(seed, 4294967296);
     }
     spread(g, seed);
-    draw_edges(g, seed);
+    turn_edges(g, percent, seed);
 }
 
 // A random graph of up to 12 places and three edge labels.
@@ -162,28 +153,46 @@ fn write_vertices(g: &Graph, file: &mut [u8], from: usize) -> usize {
     at
 }
 
-// Writes the edge of a cell, if it is there.
-fn write_edge(g: &Graph, cell: usize, file: &mut [u8], at: usize) -> usize {
-    if g[CELLS + cell % CELL_COUNT] == 0 {
+// Writes the edge of a cell, if an old graph has it and this one not, or the other way round; before it so many bits that are 1 where
+// this one has it.
+fn write_edge(
+    g: &Graph,
+    old: &Graph,
+    cell: usize,
+    bits: usize,
+    file: &mut [u8],
+    at: usize,
+) -> usize {
+    let has = g[CELLS + cell % CELL_COUNT];
+    if old[CELLS + cell % CELL_COUNT] == has {
         return at;
     }
-    let label = put_field(file, at, 16, number(g, cell / 64));
+    let source = put_field(file, at, bits, has);
+    let label = put_field(file, source, 16, number(g, cell / 64));
     let target = put_field(file, label, 8, edge_label(cell / 16));
     put_field(file, target, 16, number(g, cell))
 }
 
-fn write_edges(g: &Graph, file: &mut [u8], from: usize) -> usize {
+fn write_edges(g: &Graph, old: &Graph, bits: usize, file: &mut [u8], from: usize) -> usize {
     let mut at = from;
     for cell in 0..CELL_COUNT {
-        at = write_edge(g, cell, file, at);
+        at = write_edge(g, old, cell, bits, file, at);
     }
     at
 }
 
 // Writes the graph's file over zeros and answers its length in bytes.
 pub fn write(g: &Graph, file: &mut [u8]) -> usize {
+    let none = [0usize; WORDS];
     let edges = put_field(file, 0, 16, g[VERTICES]);
     let vertices = put_field(file, edges, 20, g[EDGES]);
     let listed = write_vertices(g, file, vertices);
-    bytes_for(write_edges(g, file, listed))
+    bytes_for(write_edges(g, &none, 0, file, listed))
+}
+
+// Writes the file of the changes from an old graph to this one over zeros and answers its length in bytes.
+pub fn write_changes(g: &Graph, old: &Graph, file: &mut [u8]) -> usize {
+    let end = write_edges(g, old, 1, file, 20);
+    put_field(file, 0, 20, sub(end, 20) / 41);
+    bytes_for(end)
 }

@@ -1,12 +1,9 @@
 // A plan: one array with the words named below, the pile of the sets that the results cover, and the operators, each as a number:
 // 32 for each kind, and the operand.
-use crate::bits::add;
-use crate::bits::put_field;
-use crate::bits::sub;
+use crate::bits::*;
 use crate::queries;
 use crate::queries::Query;
-use crate::random::below;
-use crate::random::chance;
+use crate::random::*;
 
 type Plan = [usize; WORDS];
 
@@ -59,19 +56,13 @@ fn extend(p: &mut Plan, q: &Query, seed: &mut u64) {
     }
 }
 
-// The vertices next to v, where a set has it.
-fn next_in(q: &Query, set: usize, v: usize) -> usize {
-    if set & queries::only(v) == 0 {
-        return 0;
-    }
-    queries::next_to(q, v)
-}
-
 // The vertices next to those of a set.
 fn next_to_set(q: &Query, set: usize) -> usize {
     let mut found = 0;
     for v in 0..8usize {
-        found = found | next_in(q, set, v);
+        if set & queries::only(v) != 0 {
+            found = found | queries::next_to(q, v);
+        }
     }
     found
 }

@@ -1,12 +1,9 @@
 // A query: one array with the words named below, for each vertex the set of those next to it, the edges in the file's order, and a
 // cell for each from, to and label, which is 1 where the edge is there. An edge is the number of its cell.
-use crate::bits::add;
-use crate::bits::bytes_for;
-use crate::bits::put_field;
+use crate::bits::*;
 use crate::graphs;
 use crate::graphs::Graph;
-use crate::random::below;
-use crate::random::chance;
+use crate::random::*;
 
 pub type Query = [usize; WORDS];
 
@@ -142,10 +139,8 @@ pub fn put_edge(q: &mut Query, edge: usize) {
     let s = source(edge);
     let t = target(edge);
     let cell = CELLS + edge % CELL_COUNT;
-    if (s == t) | (q[VERTICES] <= s) | (q[VERTICES] <= t) {
-        return;
-    }
-    if (q[cell] == 1) | (MAX_EDGES <= q[EDGES]) {
+    let outside = (q[VERTICES] <= s) | (q[VERTICES] <= t);
+    if (s == t) | outside | (q[cell] == 1) | (MAX_EDGES <= q[EDGES]) {
         return;
     }
     q[cell] = 1;

@@ -2,11 +2,11 @@
 use mathlib.Core.Path.{_≡_}
 use mathlib.Core.Bool.{Bool, true, cond, not, _&&_}
 use mathlib.Core.List.{List, _++_, map, flatMap}
-use Prim.Native.Nat.{ℕ, suc, _+_, _*_, _/_, _%_, _≤_, _<_}
+use Prim.Native.Nat.{ℕ, suc, _+_, _-_, _*_, _/_, _%_, _≤_, _<_}
 use lib.Dec.{eqb, ltb}
 use lib.ListN.{length, getD, drop}
-use Rattle.lists.specs.Lists.{range, all, keep, count, ascending}
-use Rattle.graph.specs.Graph.{entryEnd, forward, backward, key}
+use Rattle.lists.specs.Lists.{range, all, keep, count, ascending, sort}
+use Rattle.graph.specs.Graph.{entryEnd, Direction, forward, key}
 use Rattle.store.specs.inner.Side.{listOn, Within}
 use Rattle.changes.specs.File.{changeCount, changedEdge}
 use Rattle.changes.specs.inner.Reading.{Sized}
@@ -20,18 +20,18 @@ keyAt v k = not (ltb k (v * entryEnd)) && ltb k (suc v * entryEnd)
 unfoldable pub entriesOf : ℕ → List ℕ → List ℕ
 entriesOf v ks = map (λ (k : ℕ). k % entryEnd) (keep (keyAt v) ks)
 
--- The keys of the changes for a side: for the forward one in the file's order, for the backward one in a given order.
-unfoldable pub sideKeys : List ℕ → List ℕ → List ℕ
-sideKeys s order =
-    cond (eqb (length order) 0)
-    (map (λ (i : ℕ). key forward (changedEdge s i)) (range (changeCount s)))
-    (map (λ (i : ℕ). key backward (changedEdge s i)) order)
+-- The keys of the changes in a direction, ascending.
+unfoldable pub changeKeys : Direction → List ℕ → List ℕ
+changeKeys d s = sort (map (λ (i : ℕ). key d (changedEdge s i)) (range (changeCount s)))
 
--- A file with no order, or with the numbers of all its changes in some order.
-pub record Ordered (s order : List ℕ) : Type 0 where
+-- Those that a side is merged with: the ones given, or where none are given the forward ones, which the file has in order.
+unfoldable pub sideKeys : List ℕ → List ℕ → List ℕ
+sideKeys s keys = cond (eqb (length keys) 0) (map (λ (i : ℕ). key forward (changedEdge s i)) (range (changeCount s))) keys
+
+-- A file with no keys, or with as many as it has changes.
+pub record Keyed (s keys : List ℕ) : Type 0 where
   pub sized : Sized s
-  pub full : (length order ≡ 0 → ⊥) → length order ≡ changeCount s
-  pub numbers : (i : ℕ) → i < length order → getD order i 0 < changeCount s
+  pub full : (length keys ≡ 0 → ⊥) → length keys ≡ changeCount s
 
 -- The entry in a key of an edge at v, and one above all entries in any other.
 abbrev pub entryAt : ℕ → ℕ → ℕ
@@ -51,9 +51,16 @@ pub record Mergeable (xs cs : List ℕ) (v from room : ℕ) : Type 0 where
 
 -- ---- a side
 
+-- How many keys are of vertices below v, and their entries.
+abbrev pub below : ℕ → List ℕ → ℕ
+below v ks = count (λ (k : ℕ). ltb k (v * entryEnd)) ks
+
+abbrev pub entriesBelow : ℕ → List ℕ → List ℕ
+entriesBelow v ks = map (λ (k : ℕ). k % entryEnd) (keep (λ (k : ℕ). ltb k (v * entryEnd)) ks)
+
 -- The offsets and the entries that keys make: those of n vertices.
 unfoldable pub sideWords : ℕ → List ℕ → List ℕ
-sideWords n ks = map (λ (v : ℕ). count (λ (k : ℕ). ltb k (v * entryEnd)) ks) (range (suc n)) ++ map (λ (k : ℕ). k % entryEnd) ks
+sideWords n ks = map (λ (v : ℕ). below v ks) (range (suc n)) ++ map (λ (k : ℕ). k % entryEnd) ks
 
 -- The keys that the lists of a side tell.
 unfoldable pub keysOn : List ℕ → ℕ → ℕ → List ℕ
@@ -63,6 +70,8 @@ keysOn old n side = flatMap (λ (v : ℕ). map (λ (e : ℕ). v * entryEnd + e) 
 pub record SideOf (old : List ℕ) (n side : ℕ) (ks : List ℕ) : Type 0 where
   pub within : (v : ℕ) → v < n → Within old n side v
   pub lists : (v : ℕ) → v < n → listOn old n side v ≡ entriesOf v ks
+  pub starts : (v : ℕ) → v ≤ n → getD old (side + v) 0 ≡ below v ks
+  pub whole : side + n + 1 + length ks ≤ length old
   pub rising : ascending ks ≡ true
   pub bounded : all (λ (k : ℕ). ltb k (n * entryEnd)) ks ≡ true
 
@@ -73,3 +82,34 @@ pub record Fitting (ks cs : List ℕ) (n room : ℕ) : Type 0 where
   pub changes-bounded : all (λ (k : ℕ). ltb k (n * entryEnd)) cs ≡ true
   pub countable : length (toggled ks cs) < 4294967296
   pub fits : suc n + length (toggled ks cs) ≤ room
+
+-- The new side is written for the vertices below v: their offsets and the one after them, and their entries, which are `len`.
+pub record Written (new : List ℕ) (n : ℕ) (side₀ : List ℕ) (v : ℕ) (side : List ℕ) (len : ℕ) : Type 0 where
+  pub within : v ≤ n
+  pub long : length side ≡ length side₀
+  pub starts : (w : ℕ) → w ≤ v → getD side w 0 ≡ below w new
+  pub words : drop (suc n) side ≡ entriesBelow v new ++ drop (suc n + len) side₀
+  pub its-len : len ≡ below v new
+
+-- The vertices from v to before u have the same entries by old and by new keys.
+abbrev pub Untouched : List ℕ → List ℕ → ℕ → ℕ → Type 0
+Untouched ks new v u = (w : ℕ) → v ≤ w → w < u → entriesOf w new ≡ entriesOf w ks
+
+-- There is room for their lists after `len` entries.
+pub record Copyable (ks : List ℕ) (n v u len room : ℕ) : Type 0 where
+  pub few : n < 65536
+  pub upward : v ≤ u
+  pub inside : u ≤ n
+  pub countable : len + (below u ks - below v ks) < 4294967296
+  pub fits : suc n + (len + (below u ks - below v ks)) ≤ room
+
+-- They are written after the entries that were, of which there are then `many` more.
+abbrev pub Copied : List ℕ → ℕ → ℕ → ℕ → ℕ → List ℕ → List ℕ → ℕ → Type 0
+Copied ks n v u len side out many =
+    (new side₀ : List ℕ) → ascending new ≡ true → Untouched ks new v u → Written new n side₀ v side len → Written new n side₀ u out (len + many)
+
+-- The first words of one slice, less one number and more another, stand at the front of a second.
+pub record Moved (from : List ℕ) (many less more : ℕ) (to₀ to : List ℕ) : Type 0 where
+  pub long : length to ≡ length to₀
+  pub moved : (i : ℕ) → i < many → getD to i 0 ≡ getD from i 0 - less + more
+  pub rest : drop many to ≡ drop many to₀

@@ -9,6 +9,6 @@ use Rattle.judge.proofs.tally.print_refusals.Tie as tie
 pub print-refusals-spec : {M : Type 1} → statement M
 print-refusals-spec = tie.close (tie.spec
     (λ tally k₀ t4 t5 t6 k. length t4 ≡ 1 × length t5 ≡ 1)
-    (λ tally k₀ t4 t5 t6 k. 27 - k)
+    (λ tally k₀ t4 t5 t6 k. 30 - k)
     (search needs) (search needs) (search needs) (search needs) (search needs) (search needs) (search needs) (search needs)
     (search needs) (search needs) (search needs) (search needs) (search needs) (search needs) (search needs) (search needs))

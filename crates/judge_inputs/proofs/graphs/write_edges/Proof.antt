@@ -8,6 +8,6 @@ use Rattle.judge_inputs.proofs.graphs.write_edges.Tie as tie
 
 pub write-edges-spec : {M : Type 1} → statement M
 write-edges-spec = tie.close (tie.spec
-    (λ g file₀ from at₀ cell₀ file at cell. length file ≡ length file₀)
-    (λ g file₀ from at₀ cell₀ file at cell. 1024 - cell)
+    (λ g old bits file₀ from at₀ cell₀ file at cell. length file ≡ length file₀)
+    (λ g old bits file₀ from at₀ cell₀ file at cell. 1024 - cell)
     (search needs) (search needs) (search needs) (search needs) (search needs) (search needs) (search needs))

@@ -8,4 +8,4 @@ pub next-to-set-spec : {M : Type 1} → statement M
 next-to-set-spec = tie.close (tie.spec
     (λ q set found₀ v₀ found v. Unit {0})
     (λ q set found₀ v₀ found v. 8 - v)
-    (search needs) (search needs) (search needs) (search needs) (search needs) (search needs))
+    (search needs) (search needs) (search needs) (search needs) (search needs) (search needs) (search needs))
