@@ -23,7 +23,7 @@ pub enum Cache {
     On,
 }
 
-/// The counts of a loaded graph.
+/// The counts of a graph that was loaded, or edited.
 #[derive(Clone, Copy, Debug, PartialEq, Eq)]
 pub struct Loaded {
     /// How many vertices the graph has.
@@ -66,6 +66,30 @@ pub fn load_into(file: &[u8], store: &mut [u32]) -> Result<Loaded, Refusal> {
     // SAFETY: each pointer and length are those of one slice, and the numbers are locals. The store is borrowed alone.
     let number = unsafe {
         sys::trace_load(file.as_ptr(), file.len(), store.as_mut_ptr(), store.len(), &mut vertices, &mut edges)
+    };
+    accepted(number)?;
+    Ok(Loaded { vertices: size(vertices), edges: size(edges) })
+}
+
+/// Writes the store of an edited graph, from an old store and a change file, into a store that the caller lends: the words are those
+/// that [`load_into`] writes for a file of that graph. The old store is only read.
+///
+/// Any words may stand for the old store: those that no graph file loads to are refused. Refused, the new store is untouched; written,
+/// the words past the used ones are.
+pub fn apply_changes_into(old: &[u32], changes: &[u8], store: &mut [u32]) -> Result<Loaded, Refusal> {
+    let (mut vertices, mut edges) = (0, 0);
+    // SAFETY: each pointer and length are those of one slice, and the numbers are locals. The new store is borrowed alone.
+    let number = unsafe {
+        sys::trace_apply_changes(
+            old.as_ptr(),
+            old.len(),
+            changes.as_ptr(),
+            changes.len(),
+            store.as_mut_ptr(),
+            store.len(),
+            &mut vertices,
+            &mut edges,
+        )
     };
     accepted(number)?;
     Ok(Loaded { vertices: size(vertices), edges: size(edges) })

@@ -1,4 +1,4 @@
-//! Subgraph matching by a proved engine: load a packed graph, check a plan or draw one, run it.
+//! Subgraph matching by a proved engine: load a packed graph or change a loaded one, check a plan or draw one, run it.
 //!
 //! The engine is written in Rattle and proved to meet its contracts: after an accepted run the list holds every match of the
 //! query once, and nothing else. A match gives different query vertices different data vertices, each with the label and with one of
@@ -36,6 +36,11 @@
 //! // Without a plan: one is drawn, here the same.
 //! assert_eq!(store.draw_plan(&query)?, plan);
 //! assert_eq!(store.run_drawn(&query, Cache::On, &mut buffers)?.len(), 2);
+//!
+//! // One change: the edge 1→2 is taken away, and with it both triangles. The old store stays as it is.
+//! let changed = store.changed(&[0x00, 0x00, 0x10, 0x00, 0x08, 0x08, 0x00, 0x10])?;
+//! assert_eq!((store.edges(), changed.edges()), (5, 4));
+//! assert_eq!(changed.run_growing(&query, &plan, Cache::On, &mut buffers)?.len(), 0);
 //! # Ok::<(), trace::Refusal>(())
 //! ```
 //!
@@ -59,7 +64,8 @@ mod store;
 pub mod sys;
 
 pub use engine::{
-    check_plan, draw_plan_into, load_into, run, Cache, Loaded, Run, MAX_DRAWN_BYTES, MAX_OPERATORS, MAX_WORDS,
+    apply_changes_into, check_plan, draw_plan_into, load_into, run, Cache, Loaded, Run, MAX_DRAWN_BYTES, MAX_OPERATORS,
+    MAX_WORDS,
 };
 pub use operator::{Operator, Work};
 pub use refusal::Refusal;

@@ -51,10 +51,13 @@ refusals! {
     PlanBytes = 24, "the bytes of the drawn plan do not fit";
     QueryDays = 25, "a vertex of the query has a first day above its last";
     QueryPair = 26, "a pair of the query has equal or unknown vertices, or the pairs do not ascend strictly";
+    ChangesFile = 27, "the change file has a wrong length, a fill bit set, an edge that no graph can have, or edges that do not ascend";
+    ChangesEdge = 28, "a change adds an edge that is there, or takes one away that is not";
+    ChangesMany = 29, "the changes would make more than 1,048,575 edges";
 }
 
 impl Refusal {
-    /// Its number, 1 to 26; none has 23, which is not used again.
+    /// Its number, 1 to 29; none has 23, which is not used again.
     pub fn number(self) -> u32 {
         self as u32
     }
@@ -78,12 +81,12 @@ mod tests {
     use super::Refusal;
 
     #[test]
-    fn numbers_are_1_to_26_in_order_without_23() {
+    fn numbers_are_1_to_29_in_order_without_23() {
         let numbers: Vec<u32> = Refusal::ALL.iter().map(|r| r.number()).collect();
-        assert_eq!(numbers, (1..=22).chain(24..=26).collect::<Vec<_>>());
+        assert_eq!(numbers, (1..=22).chain(24..=29).collect::<Vec<_>>());
         assert_eq!(Refusal::from_number(20), Some(Refusal::ScratchSmall));
         assert_eq!(Refusal::from_number(0), None);
         assert_eq!(Refusal::from_number(23), None);
-        assert_eq!(Refusal::from_number(27), None);
+        assert_eq!(Refusal::from_number(30), None);
     }
 }

@@ -1,6 +1,6 @@
 //! A store that owns its words, and buffers that grow.
 use crate::operator::Operators;
-use crate::{draw_plan_into, load_into, run};
+use crate::{apply_changes_into, draw_plan_into, load_into, run};
 use crate::{Cache, Record, Refusal, Run, Work, MAX_DRAWN_BYTES, MAX_OPERATORS, MAX_WORDS};
 
 /// A loaded graph: the words that the engine reads.
@@ -19,7 +19,22 @@ fn words_for(file: &[u8]) -> usize {
     if file.len() < 5 + 4 * vertices + 5 * edges {
         return 0;
     }
+    store_words(vertices, edges)
+}
+
+fn store_words(vertices: usize, edges: usize) -> usize {
     4 * vertices + 2 * edges + 4
+}
+
+/// How many changes a change file holds, by its first 20 bits. A file too short to have them is refused, whatever the store.
+fn changes_in(file: &[u8]) -> usize {
+    let Some(head) = file.first_chunk::<3>() else { return 0 };
+    let [a, b, c] = head.map(usize::from);
+    let count = a << 12 | b << 4 | c >> 4;
+    if file.len() < (20 + 41 * count).div_ceil(8) {
+        return 0;
+    }
+    count
 }
 
 impl Store {
@@ -27,6 +42,20 @@ impl Store {
     pub fn load(file: &[u8]) -> Result<Store, Refusal> {
         let mut words = vec![0; words_for(file)];
         load_into(file, &mut words)?;
+        Ok(Store { words })
+    }
+
+    /// The store of this graph after the changes of a file, of just the words that it needs: what [`Store::load`] makes of a file of the
+    /// edited graph. This one stays as it is.
+    ///
+    /// The file holds a count (20 bits), then for each change a bit, 1 to add and 0 to take away, and an edge of source (16), label (8) and
+    /// target (16), strictly ascending by edge. An edge that is added must be absent, and one that is taken away present
+    /// ([`Refusal::ChangesEdge`]).
+    pub fn changed(&self, changes: &[u8]) -> Result<Store, Refusal> {
+        // Each change adds an edge at most, and an edge takes two words.
+        let mut words = vec![0; self.words.len() + 2 * changes_in(changes)];
+        let edited = apply_changes_into(&self.words, changes, &mut words)?;
+        words.truncate(store_words(edited.vertices, edited.edges));
         Ok(Store { words })
     }
 

@@ -27,6 +27,21 @@ extern "C" {
         edges: *mut u64,
     ) -> u32;
 
+    /// Apply changes. See `trace.h`.
+    ///
+    /// # Safety
+    /// As for [`trace_load`].
+    pub fn trace_apply_changes(
+        old: *const u32,
+        old_len: usize,
+        changes: *const u8,
+        changes_len: usize,
+        store: *mut u32,
+        store_len: usize,
+        vertices: *mut u64,
+        edges: *mut u64,
+    ) -> u32;
+
     /// Check plan. See `trace.h`.
     ///
     /// # Safety

@@ -1,4 +1,4 @@
-/* Subgraph matching: load a packed graph, check or draw a plan, run it. Link libc_api.a.
+/* Subgraph matching: load a packed graph or change a loaded one, check or draw a plan, run it. Link libc_api.a.
  *
  * Every function returns 0, or the number of a refusal (below). After a refusal every number that a pointer takes is 0.
  * No input is a fault: any bytes and words, and any lengths, are answered. What is proved of each function is its contract in
@@ -12,7 +12,7 @@
  * Nothing is kept between calls, and no function allocates, waits or prints: calls on different buffers may run at once, and
  * any number of runs may share one store. Of the C library only memcpy, memmove and memset are used.
  *
- * The three files are packed bit by bit, most significant first, and zero bits fill the last byte:
+ * The files are packed bit by bit, most significant first, and zero bits fill the last byte:
  *
  *   graph  N (16 bits), M (20), N vertices of label (16), inspection day (16, days since 1 January 2000, 0 for none), M edges of
  *          source (16), label (8), target (16), strictly ascending;
@@ -20,7 +20,9 @@
  *          m edges of from (3), to (3), label (8, 0 is any label), strictly ascending, a pair count (4 bits), pairs of two vertices
  *          (3 each), the first of which is to have the lower number, strictly ascending;
  *   plan   operator count (5 bits), then operators of a kind (2 bits): 0 scan of a query edge's index (5), 1 extend by a query
- *          vertex (3), 2 join.
+ *          vertex (3), 2 join;
+ *   changes  a count (20 bits), then changes of a bit (1 adds the edge, 0 takes it away) and an edge of source (16), label (8),
+ *          target (16), strictly ascending by edge.
  */
 #ifndef TRACE_H
 #define TRACE_H
@@ -62,8 +64,12 @@ enum trace_refusal {
        gives 23, and the number is not used again. */
     TRACE_PLAN_BYTES = 24,          /* the drawn plan's bytes do not fit */
     TRACE_QUERY_DAYS = 25,          /* a vertex has a first day above its last: after 6 to 8, before 9 */
-    TRACE_QUERY_PAIR = 26           /* a pair has equal vertices or one not below n, or the pairs do not ascend strictly: after 9
+    TRACE_QUERY_PAIR = 26,          /* a pair has equal vertices or one not below n, or the pairs do not ascend strictly: after 9
                                        and 10, before 11 */
+    TRACE_CHANGES_FILE = 27,        /* the change file is shorter or longer than its own size, a fill bit is set, an edge has a vertex
+                                       outside 0 to N - 1 or label 0, or the edges do not ascend strictly */
+    TRACE_CHANGES_EDGE = 28,        /* an edge is added that is there, or one is taken away that is not */
+    TRACE_CHANGES_MANY = 29         /* the edited graph has more than 1,048,575 edges */
 };
 
 /* What a run records of one operator: the rows of its result, and its cost. Scans and joins cost 0. */
@@ -80,6 +86,15 @@ struct trace_record {
 uint32_t trace_load(const uint8_t *file, size_t file_len,
                     uint32_t *store, size_t store_len,
                     uint64_t *vertices, uint64_t *edges);
+
+/* Writes the store of an edited graph from an old store and a change file, as by loading a file of that graph, and gives its N and M.
+ * The old store is only read. The new one needs 4 N + 2 M + 4 words, of the new M: the old M and one more for each change are always
+ * enough. Refusals 19 of the old store, then 27, 28 and 29, each over the whole file before the next, then 5. Refused, the new store is
+ * untouched; written, the words past the used ones are. */
+uint32_t trace_apply_changes(const uint32_t *old, size_t old_len,
+                             const uint8_t *changes, size_t changes_len,
+                             uint32_t *store, size_t store_len,
+                             uint64_t *vertices, uint64_t *edges);
 
 /* Checks a plan against a query, and gives the plan's number of operators. Refusals 6 to 18, 25 and 26. */
 uint32_t trace_check_plan(const uint8_t *query, size_t query_len,

@@ -8,8 +8,8 @@ use Rattle.lists.specs.Lists.{all, any, keep, sort}
 use Rattle.lists.specs.Refusal.{refuse, first, answered}
 use Rattle.graph.specs.Graph.{Edge, Graph, maxGraphEdges, entryEnd, forward, key}
 use Rattle.graph.specs.Store.{storeOf, storeSize, entryEdge, graphIn, storeFault}
+use Rattle.load.specs.declared.Loaded.{Loaded}
 use Rattle.changes.specs.File.{Change, changesOf, changeFault}
-use Rattle.changes.specs.declared.Changed.{Changed}
 
 -- The key of a change is that of its edge, and a key tells its edge.
 abbrev pub changeKey : Change → ℕ
@@ -66,7 +66,7 @@ applyFault old s room =
     ∷ [])
 
 -- 'N and M of the edited graph', or its refusal 'with every other number 0'.
-unfoldable pub applyAnswer : List ℕ → List ℕ → ℕ → Changed
+unfoldable pub applyAnswer : List ℕ → List ℕ → ℕ → Loaded
 applyAnswer old s room =
     record {
       refusal = applyFault old s room;

@@ -9,18 +9,12 @@ ghost use Rattle.changes.specs.Edit.{applyFault, applyAnswer, changedSto
 ghost use Rattle.changes.specs.inner.Reading.{Sized};
 ghost use Rattle.changes.specs.inner.Fill.{Accepted};
 use graph::Graph;
+use load::Loaded;
 
 mod edits;
 mod file;
 mod fill;
 mod merge;
-
-// What is answered: a refusal with zeros, or 0 with N and M of the edited graph.
-pub struct Changed {
-    pub refusal: u32,
-    pub vertices: usize,
-    pub edges: usize,
-}
 
 // How many edges there are after k changes to m: one more for each addition, one less for each other change.
 fn edited_edges(file: &[u8], k: usize, m: usize) -> usize
@@ -60,14 +54,15 @@ fn apply_fault(old: &[u32], file: &[u8], room: usize) -> u32
     0
 }
 
-// The refusal, with the new store untouched; or the counts of the edited graph, with its words in the new store. The old store is only read.
-pub fn apply_changes(old: &[u32], file: &[u8], store: &mut [u32]) -> Changed
+// Answered as by Load: the refusal, with the new store untouched; or the counts of the edited graph, with its words in the new store. The old store is
+// only read.
+pub fn apply_changes(old: &[u32], file: &[u8], store: &mut [u32]) -> Loaded
     ensures answer { λ r. ⌜ r ≡ applyAnswer (now (old .entry)) (now (file .entry)) (length (now (store .entry))) ⌝ }
     ensures words { λ _. ⌜ now (store .exit) ≡ changedStore (now (old .entry)) (now (file .entry)) (now (store .entry)) ⌝ }
 {
     let refusal = apply_fault(old, file, store.len());
     if refusal != 0 {
-        return Changed {
+        return Loaded {
             refusal,
             vertices: 0,
             edges: 0,
@@ -78,7 +73,7 @@ pub fn apply_changes(old: &[u32], file: &[u8], store: &mut [u32]) -> Changed
     let k = file::change_count(file);
     let m = edited_edges(file, k, g.edges);
     fill::fill(old, n, file, k, m, store);
-    Changed {
+    Loaded {
         refusal: 0,
         vertices: n,
         edges: m,

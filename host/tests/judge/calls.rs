@@ -101,6 +101,35 @@ pub fn load(r: &Random, file: &[u8], store: &mut Vec<u32>) -> Loaded {
     Loaded { refusal, vertices, edges }
 }
 
+/// Apply changes to an old store, into a new one of these words; the new store afterwards is handed back.
+pub fn apply_changes(r: &Random, old: &[u32], changes: &[u8], store: &mut Vec<u32>) -> Loaded {
+    let (old, changes) = (words(r, old), bytes(r, changes));
+    let mut lent = words(r, store);
+    let mut numbers = Numbers::<2>::new(r);
+    let [vertices, edges] = numbers.pointers();
+    // SAFETY: as above.
+    let refusal = unsafe {
+        sys::trace_apply_changes(
+            old.pointer(),
+            old.len(),
+            changes.pointer(),
+            changes.len(),
+            lent.pointer_mut(),
+            lent.len(),
+            vertices,
+            edges,
+        )
+    };
+    old.assert_untouched("old store");
+    changes.assert_untouched("change file");
+    if refusal != 0 {
+        lent.assert_untouched("new store");
+    }
+    *store = lent.contents("new store");
+    let [vertices, edges] = numbers.after(refusal);
+    Loaded { refusal, vertices, edges }
+}
+
 /// Check plan: the refusal and the operator count.
 pub fn check_plan(r: &Random, query: &[u8], plan: &[u8]) -> (u32, u64) {
     let (query, plan) = (bytes(r, query), bytes(r, plan));

@@ -5,6 +5,7 @@
 pub mod bits;
 pub mod calls;
 pub mod cases;
+pub mod changes;
 pub mod drawn;
 pub mod graph;
 pub mod hangs;

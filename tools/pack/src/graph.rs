@@ -72,9 +72,7 @@ impl Graph {
             out.put(v.day.0, 16);
         }
         for e in &self.edges {
-            out.put(e.source, 16);
-            out.put(e.label, 8);
-            out.put(e.target, 16);
+            put_edge(&mut out, e);
         }
         out.finish()
     }
@@ -90,32 +88,41 @@ impl Graph {
         if file.has_fill_set() {
             return Err(FileFault::new(2, "a fill bit is set"));
         }
-        for (i, e) in edges.iter().enumerate() {
-            if e.label == 0 {
-                let ends = format!("from {} to {}", e.source, e.target);
-                return Err(FileFault::new(3, format!("edge {ends}: label 0")));
-            }
-            if e.source.max(e.target) as usize >= vertices.len() {
-                return Err(FileFault::new(3, format!("edge {e}: no such vertex")));
-            }
-            if i > 0 && key(&edges[i - 1]) >= key(e) {
-                return Err(FileFault::new(4, format!("edge {e} does not ascend")));
-            }
+        match first_fault(&edges, vertices.len()) {
+            Some(fault) => Err(fault),
+            None => Ok(Graph { vertices, edges }),
         }
-        Ok(Graph { vertices, edges })
     }
 }
 
 /// What edges ascend by.
-fn key(e: &Edge) -> (u32, u32, u32) {
+pub fn key(e: &Edge) -> (u32, u32, u32) {
     (e.source, e.label, e.target)
+}
+
+/// The first fault in the edges of a file, of a graph of n vertices.
+pub fn first_fault(edges: &[Edge], n: usize) -> Option<FileFault> {
+    let fault = |i: usize, e: &Edge| match () {
+        _ if e.label == 0 => {
+            let reason = format!("edge from {} to {}: label 0", e.source, e.target);
+            Some(FileFault::new(3, reason))
+        }
+        _ if e.source.max(e.target) as usize >= n => {
+            Some(FileFault::new(3, format!("edge {e}: no such vertex")))
+        }
+        _ if i > 0 && key(&edges[i - 1]) >= key(e) => {
+            Some(FileFault::new(4, format!("edge {e} does not ascend")))
+        }
+        _ => None,
+    };
+    edges.iter().enumerate().find_map(|(i, e)| fault(i, e))
 }
 
 fn read(file: &mut BitReader) -> Option<(Vec<Vertex>, Vec<Edge>)> {
     let n = file.take(16)?;
     let m = file.take(20)?;
     let vertices = (0..n).map(|_| vertex(file)).collect::<Option<_>>()?;
-    let edges = (0..m).map(|_| edge(file)).collect::<Option<_>>()?;
+    let edges = (0..m).map(|_| take_edge(file)).collect::<Option<_>>()?;
     Some((vertices, edges))
 }
 
@@ -126,7 +133,13 @@ fn vertex(file: &mut BitReader) -> Option<Vertex> {
     })
 }
 
-fn edge(file: &mut BitReader) -> Option<Edge> {
+pub fn put_edge(out: &mut BitWriter, e: &Edge) {
+    out.put(e.source, 16);
+    out.put(e.label, 8);
+    out.put(e.target, 16);
+}
+
+pub fn take_edge(file: &mut BitReader) -> Option<Edge> {
     Some(Edge {
         source: file.take(16)?,
         label: file.take(8)?,

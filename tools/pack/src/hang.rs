@@ -1,36 +1,41 @@
-//! A graph, a query and a plan together, to their packed files and back, and as text.
+//! A graph, a query, a plan and changes together, to their packed files and back, and as text.
 
 use std::fmt;
 
+use crate::change::Changes;
 use crate::edge::{Edge, FileFault};
 use crate::graph::Graph;
 use crate::plan::{Operator, Plan};
 use crate::query::Query;
 
-/// Each may be missing, but a plan has its query.
+/// Each may be missing, but a plan has its query, and changes have their graph.
 #[derive(Clone, Debug, Default, PartialEq, Eq)]
 pub struct Hang {
     pub graph: Option<Graph>,
     pub query: Option<Query>,
     pub plan: Option<Plan>,
+    pub changes: Option<Changes>,
 }
 
-impl Hang {
-    /// The files of graph, query and plan.
-    pub const FILES: [&'static str; 3] = ["g.bin", "q.bin", "p.bin"];
+/// The bytes of the files, of those that there are.
+pub type Files = [Option<Vec<u8>>; 4];
 
-    /// The bytes of the files, of those that there are.
-    pub fn to_files(&self) -> [Option<Vec<u8>>; 3] {
+impl Hang {
+    /// The files of graph, query, plan and changes.
+    pub const FILES: [&'static str; 4] = ["g.bin", "q.bin", "p.bin", "c.bin"];
+
+    pub fn to_files(&self) -> Files {
         [
             self.graph.as_ref().map(Graph::to_bytes),
             self.query.as_ref().map(Query::to_bytes),
             self.plan.as_ref().map(Plan::to_bytes),
+            self.changes.as_ref().map(Changes::to_bytes),
         ]
     }
 
     /// What the files hold, or a malformed one and its fault.
-    pub fn from_files(files: [Option<Vec<u8>>; 3]) -> Result<Self, (&'static str, FileFault)> {
-        let [g, q, p] = files;
+    pub fn from_files(files: Files) -> Result<Self, (&'static str, FileFault)> {
+        let [g, q, p, c] = files;
         let of = |i: usize| move |fault| (Hang::FILES[i], fault);
         let graph = g.map(|bytes| Graph::from_bytes(&bytes));
         let graph = graph.transpose().map_err(of(0))?;
@@ -41,7 +46,17 @@ impl Hang {
             None => Err(FileFault::new(6, "there is no q.bin beside it")),
         });
         let plan = plan.transpose().map_err(of(2))?;
-        Ok(Hang { graph, query, plan })
+        let changes = c.map(|bytes| match &graph {
+            Some(graph) => Changes::from_bytes(&bytes, graph),
+            None => Err(FileFault::new(1, "there is no g.bin beside it")),
+        });
+        let changes = changes.transpose().map_err(of(3))?;
+        Ok(Hang {
+            graph,
+            query,
+            plan,
+            changes,
+        })
     }
 }
 
@@ -61,6 +76,12 @@ impl fmt::Display for Hang {
             if let Some(plan) = &self.plan {
                 writeln!(f, "[plan]")?;
                 write_plan(f, query, plan)?;
+            }
+        }
+        if let Some(changes) = &self.changes {
+            writeln!(f, "[changes]")?;
+            for change in &changes.changes {
+                writeln!(f, "{change}")?;
             }
         }
         Ok(())

@@ -1,6 +1,7 @@
-//! Graphs, queries and plans: their text form and their packed files.
+//! Graphs, queries, plans and changes: their text form and their packed files.
 
 pub mod bits;
+pub mod change;
 pub mod cli;
 pub mod day;
 pub mod drawing;

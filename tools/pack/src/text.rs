@@ -1,7 +1,11 @@
-//! The text form: its sections, and the plan. [`crate::drawing`] reads the graph and the query.
+//! The text form: its sections, the plan and the changes. [`crate::drawing`] reads the graph and the
+//! query.
 
+use std::collections::HashMap;
+
+use crate::change::{self, Change, Changes, ADD, TAKE};
 use crate::drawing::{number, Drawing};
-use crate::graph::Graph;
+use crate::graph::{self, Graph};
 use crate::hang::Hang;
 use crate::pair::{contradiction, Pair};
 use crate::plan::{Operator, Plan};
@@ -32,7 +36,7 @@ pub struct Parsed {
     pub warning: Option<Note>,
 }
 
-const SECTIONS: [&str; 3] = ["[graph]", "[query]", "[plan]"];
+const SECTIONS: [&str; 4] = ["[graph]", "[query]", "[plan]", "[changes]"];
 
 /// A section, the line of its header, and its lines that are not blank, as words.
 pub struct Section<'a> {
@@ -45,16 +49,25 @@ pub struct Section<'a> {
 pub fn parse(bytes: &[u8]) -> Result<Parsed, Note> {
     let sections = split(decode(bytes)?)?;
     let find = |name| sections.iter().find(|s| s.name == name);
-    let graph = find("[graph]")
-        .map(|s| Drawing::read(s, &Graph::LIMITS))
-        .transpose()?
-        .map(|d| Graph::new(d.vertices, d.edges));
+    let (graph, changes, unfit) = match (find("[graph]"), find("[changes]")) {
+        (Some(graph), changes) => read_rig(graph, changes)?,
+        (None, Some(changes)) => {
+            return Err(Note::new(changes.line, "[changes] need their [graph]"))
+        }
+        (None, None) => (None, None, None),
+    };
     let (query, plan, warning) = match (find("[query]"), find("[plan]")) {
         (Some(query), plan) => read_pattern(query, plan)?,
         (None, Some(plan)) => return Err(Note::new(plan.line, "a [plan] needs its [query]")),
         (None, None) => (None, None, None),
     };
-    let hang = Hang { graph, query, plan };
+    let hang = Hang {
+        graph,
+        query,
+        plan,
+        changes,
+    };
+    let warning = unfit.or(warning);
     Ok(Parsed { hang, warning })
 }
 
@@ -99,7 +112,57 @@ fn split(text: &str) -> Result<Vec<Section<'_>>, Note> {
     Ok(sections)
 }
 
-const EXPECTED: &str = "expected [graph], [query] or [plan]";
+const EXPECTED: &str = "expected [graph], [query], [plan] or [changes]";
+
+/// A graph, changes to it and a warning about them.
+type Rig = (Option<Graph>, Option<Changes>, Option<Note>);
+
+fn read_rig(graph: &Section, changes: Option<&Section>) -> Result<Rig, Note> {
+    let drawing = Drawing::read(graph, &Graph::LIMITS)?;
+    let read = changes.map(|s| read_changes(s, &drawing)).transpose()?;
+    let graph = Graph::new(drawing.vertices, drawing.edges);
+    let warning = changes
+        .zip(read.as_ref())
+        .and_then(|(s, read)| warn_of_changes(s, &graph, read));
+    Ok((Some(graph), read.map(Changes::new), warning))
+}
+
+/// The changes in the order of their lines.
+fn read_changes(section: &Section, drawing: &Drawing<graph::Vertex>) -> Result<Vec<Change>, Note> {
+    let mut changes = Vec::new();
+    let mut lines = HashMap::new();
+    for (line, words) in &section.lines {
+        let note = |reason| Note::new(*line, reason);
+        let change = read_change(words, drawing).map_err(note)?;
+        if let Some(first) = lines.insert(change.edge, line) {
+            return Err(note(format!("the edge stands at line {first} already")));
+        }
+        if changes.len() == *Changes::COUNT.end() {
+            return Err(note(format!("more than {} changes", Changes::COUNT.end())));
+        }
+        changes.push(change);
+    }
+    Ok(changes)
+}
+
+fn read_change(words: &[&str], drawing: &Drawing<graph::Vertex>) -> Result<Change, String> {
+    match *words {
+        [sign @ (ADD | TAKE), source, arrow, target] => Ok(Change {
+            adds: sign == ADD,
+            edge: drawing.edge(source, arrow, target, &Graph::LIMITS)?,
+        }),
+        _ => Err(format!(
+            "expected '{ADD} A -L-> B', an edge to add, or '{TAKE} A -L-> B', one to take away, \
+             with blanks around the arrow"
+        )),
+    }
+}
+
+fn warn_of_changes(section: &Section, graph: &Graph, changes: &[Change]) -> Option<Note> {
+    let broken = change::broken_rule(graph, changes)?;
+    let line = broken.change.map_or(section.line, |i| section.lines[i].0);
+    Some(refused(line, broken.refusal, &broken.reason))
+}
 
 /// A query, its plan and a warning about them.
 type Pattern = (Option<Query>, Option<Plan>, Option<Note>);

@@ -120,6 +120,32 @@ fn pairs_come_back() {
     assert_eq!(told(unpack(&dir, &["."])), says(1, "", message));
 }
 
+/// Changes come back in their order; a text without them leaves their file, bad ones have a line, and
+/// those that do not apply a warning.
+#[test]
+fn changes_come_back() {
+    let dir = folder("changes");
+    let text = format!("{TEXT}[changes]\n- 0 -1-> 1\n+ 0 -2-> 0\n+ 1 -1-> 0\n");
+    fs::write(dir.join("hang.txt"), TEXT).unwrap();
+    assert_eq!(told(pack(&dir, &["hang.txt"])), says(0, "", ""));
+    assert!(!dir.join("c.bin").exists());
+    fs::write(dir.join("swap.txt"), &text).unwrap();
+    assert_eq!(told(pack(&dir, &["swap.txt"])), says(0, "", ""));
+    assert_eq!(told(unpack(&dir, &["."])), says(0, &text, ""));
+    assert_eq!(told(pack(&dir, &["hang.txt"])), says(0, "", ""));
+    assert_eq!(told(unpack(&dir, &["."])), says(0, &text, ""));
+    fs::write(dir.join("bad.txt"), text.replace("0 -2-> 0", "0 -2-> 2")).unwrap();
+    let message = "bad.txt:11: no vertex '2' has been declared\n";
+    assert_eq!(told(pack(&dir, &["bad.txt"])), says(1, "", message));
+    assert_eq!(told(unpack(&dir, &["."])), says(0, &text, ""));
+    let unfit = text.replace("- 0 -1-> 1", "+ 0 -1-> 1");
+    fs::write(dir.join("unfit.txt"), &unfit).unwrap();
+    let warning = "unfit.txt:10: warning: the graph has the edge 0 -1-> 1 already; \
+                   the engine will refuse this with 28\n";
+    assert_eq!(told(pack(&dir, &["unfit.txt"])), says(0, "", warning));
+    assert_eq!(told(unpack(&dir, &["."])), says(0, &unfit, ""));
+}
+
 #[test]
 fn bad_days_have_a_line_and_change_no_file() {
     let dir = folder("bad_days");
@@ -188,13 +214,26 @@ fn warnings_pack() {
 #[test]
 fn malformed_files_are_named() {
     let dir = folder("malformed");
-    let none = ".: no g.bin, q.bin or p.bin\n";
+    let none = ".: no g.bin, q.bin, p.bin or c.bin\n";
     assert_eq!(told(unpack(&dir, &["."])), says(1, "", none));
     fs::write(dir.join("p.bin"), [8, 0]).unwrap();
     let alone = "./p.bin: there is no q.bin beside it (refusal 6)\n";
     assert_eq!(told(unpack(&dir, &["."])), says(1, "", alone));
     fs::write(dir.join("g.bin"), [0, 0, 0, 0, 1]).unwrap();
     let fill = "./g.bin: a fill bit is set (refusal 2)\n";
+    assert_eq!(told(unpack(&dir, &["."])), says(1, "", fill));
+    fs::remove_file(dir.join("p.bin")).unwrap();
+    fs::remove_file(dir.join("g.bin")).unwrap();
+    fs::write(dir.join("c.bin"), [0, 0, 0]).unwrap();
+    let alone = "./c.bin: there is no g.bin beside it (refusal 1)\n";
+    assert_eq!(told(unpack(&dir, &["."])), says(1, "", alone));
+    fs::write(dir.join("g.bin"), [0, 0, 0, 0, 0]).unwrap();
+    assert_eq!(
+        told(unpack(&dir, &["."])),
+        says(0, "[graph]\n[changes]\n", "")
+    );
+    fs::write(dir.join("c.bin"), [0, 0, 1]).unwrap();
+    let fill = "./c.bin: a fill bit is set (refusal 27)\n";
     assert_eq!(told(unpack(&dir, &["."])), says(1, "", fill));
 }
 

@@ -1,6 +1,7 @@
 //! Malformed packed files, against the numbers that the engine refuses them with.
 
 use pack::bits::BitWriter;
+use pack::change::Changes;
 use pack::edge::FileFault;
 use pack::graph::Graph;
 use pack::plan::Plan;
@@ -199,6 +200,67 @@ fn days_of_a_graph() {
     let fields: Vec<(u32, u32)> = graph.vertices.iter().map(|v| (v.label, v.day.0)).collect();
     assert_eq!(fields, [(7, 1), (0, 65_535), (65_535, 0)]);
     assert_eq!(graph.to_bytes(), bytes(file));
+}
+
+/// Of changes to G, which has 4 vertices: one takes 61 bits, and two take 102.
+#[test]
+fn changes() {
+    let g = graph(G).unwrap();
+    let read = |bytes: &[u8]| Changes::from_bytes(bytes, &g);
+    let fault = |hex: &str| read(&bytes(hex)).unwrap_err().to_string();
+    // Takes 1 -1-> 2 away.
+    let one = "00001 00008 080010";
+    assert_eq!(read(&bytes(one)).unwrap().to_bytes(), bytes(one));
+    assert_eq!(read(&[0; 3]).unwrap().changes, []);
+    for length in 0..bytes(one).len() {
+        assert_eq!(refusal(read(&bytes(one)[..length])), 27, "{length} bytes");
+    }
+    assert_eq!(
+        fault("00001 00008 0800"),
+        "the file is too short (refusal 27)"
+    );
+    assert_eq!(
+        fault("00001 00008 08001000"),
+        "the file is too long (refusal 27)"
+    );
+    assert_eq!(
+        fault("00001 00008 080014"),
+        "a fill bit is set (refusal 27)"
+    );
+    assert_eq!(fault("000001"), "a fill bit is set (refusal 27)");
+    assert_eq!(
+        fault("00001 00008 000010"),
+        "edge from 1 to 2: label 0 (refusal 27)"
+    );
+    assert_eq!(
+        fault("00001 00020 080010"),
+        "edge 4 -1-> 2: no such vertex (refusal 27)"
+    );
+    assert_eq!(
+        fault("00001 80008 080020"),
+        "edge 1 -1-> 4: no such vertex (refusal 27)"
+    );
+    // 1 -1-> 2 twice, whatever the bits say; then 1 -1-> 3 and 1 -1-> 2.
+    for second in [0, 1] {
+        let mut out = BitWriter::default();
+        for (value, width) in [(2, 20), (0, 1), (1, 16), (1, 8), (2, 16)] {
+            out.put(value, width);
+        }
+        for (value, width) in [(second, 1), (1, 16), (1, 8), (2, 16)] {
+            out.put(value, width);
+        }
+        let message = "edge 1 -1-> 2 does not ascend (refusal 27)";
+        assert_eq!(read(&out.finish()).unwrap_err().to_string(), message);
+    }
+    let mut out = BitWriter::default();
+    for (value, width) in [(2, 20), (1, 1), (1, 16), (2, 8), (0, 16)] {
+        out.put(value, width);
+    }
+    for (value, width) in [(0, 1), (1, 16), (1, 8), (3, 16)] {
+        out.put(value, width);
+    }
+    let message = "edge 1 -1-> 3 does not ascend (refusal 27)";
+    assert_eq!(read(&out.finish()).unwrap_err().to_string(), message);
 }
 
 #[test]

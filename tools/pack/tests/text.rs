@@ -106,7 +106,7 @@ fn faulty_labels_of_query_edges() {
 
 #[test]
 fn faulty_sections() {
-    let expected = "expected [graph], [query] or [plan]";
+    let expected = "expected [graph], [query], [plan] or [changes]";
     for (text, message) in [
         ("", format!("1: no section; {expected}")),
         ("# nothing\n\n", format!("1: no section; {expected}")),
@@ -125,6 +125,10 @@ fn faulty_sections() {
         (
             "[graph]\n[plan]\nscan 0\n",
             "2: a [plan] needs its [query]".into(),
+        ),
+        (
+            "[query]\nvertices 2\n0 -1-> 1\n[changes]\n",
+            "4: [changes] need their [graph]".into(),
         ),
     ] {
         assert_eq!(refused(text), message);

@@ -11,9 +11,9 @@ use pack::text::parse;
 const HELP: &str = "\
 usage: pack FILE [DIR], or pack --help
 
-Packs the text FILE into g.bin, q.bin and p.bin in DIR, by default the folder of FILE.
-The text has up to three sections; the file of a section that is missing is left as it is.
-Without [plan] a plan can be drawn by the engine, from C or Rust.
+Packs the text FILE into g.bin, q.bin, p.bin and c.bin in DIR, by default the folder of FILE.
+The text has up to four sections; the file of a section that is missing is left as it is.
+Without [plan] a plan can be drawn by the engine, from C or Rust, where changes are applied too.
 
     # A comment runs to the end of its line.
     [graph]
@@ -32,10 +32,13 @@ Without [plan] a plan can be drawn by the engine, from C or Rust.
     scan a -5-> b           # a query edge, or its index in ascending order: scan 0
     extend c
     # join                  # of the last two results: the earlier is build, the later probe
+    [changes]               # to the [graph] in the same text, by its numbers and names
+    + 1 -5-> pin            # an edge that is added
+    - 0 -5-> pin            # one that is taken away
 
 Vertices are numbered from 0 in the order of their lines, and are declared above their edges.
 Edges stand in any order; pack sorts them, a graph's by source, label and target, a query's by
-source, target and label, where any comes before 1. Pairs too are sorted.
+source, target and label, where any comes before 1. Pairs and changes too are sorted.
 
 A day is a date, or a number of days since 2000-01-01; day 0 is none, and a vertex without 'day' has
 it. 'inspected' has a first and a last day, both inclusive, and each may be left out; a query vertex
@@ -48,10 +51,12 @@ without it fits every day. Day 0 counts as a number: '..2026-06-30' fits what ha
                twice; in a query none from a vertex to itself
     pairs      query 0 to 15; of two different vertices, none twice
     operators  1 to 31
+    changes    0 to 1048575; each of another edge, label 1 to 255
 
 A text that breaks these rules is not packed: pack writes FILE:LINE: and the reason, and leaves
 all files as they are. What the engine will refuse although the files are well formed, an
-unconnected query (11) or a plan that breaks the operators' rules (15 to 18), is packed with a
+unconnected query (11), a plan that breaks the operators' rules (15 to 18), changes that add an
+edge that is there or take one away that is not (28) or make too many (29), is packed with a
 warning; so are pairs that contradict each other, like a < c with c < a: nothing matches them.
 
 Exit status: 0 packed, 1 not packed, 2 bad usage.

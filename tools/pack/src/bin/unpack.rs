@@ -11,12 +11,12 @@ use pack::hang::Hang;
 const HELP: &str = "\
 usage: unpack DIR, or unpack --help
 
-Writes the packed files g.bin, q.bin and p.bin in DIR, those that are there, as a text to standard
-output, with dates for days. From this text pack makes the same files again; pack --help explains
-it.
+Writes the packed files g.bin, q.bin, p.bin and c.bin in DIR, those that are there, as a text to
+standard output, with dates for days. From this text pack makes the same files again; pack --help
+explains it.
 
 A malformed file is not unpacked: unpack writes its name, the reason and the number that the engine
-refuses it with. Well-formed files that the engine refuses (11, 15 to 18) are unpacked.
+refuses it with. Well-formed files that the engine refuses (11, 15 to 18, 28, 29) are unpacked.
 
 Exit status: 0 unpacked, 1 not unpacked, 2 bad usage.
 ";
@@ -29,10 +29,10 @@ fn main() -> ExitCode {
 }
 
 fn unpack(dir: &Path) -> Result<String, String> {
-    let [g, q, p] = Hang::FILES;
-    let files = [read(dir, g)?, read(dir, q)?, read(dir, p)?];
+    let [g, q, p, c] = Hang::FILES;
+    let files = [read(dir, g)?, read(dir, q)?, read(dir, p)?, read(dir, c)?];
     if files.iter().all(Option::is_none) {
-        return Err(format!("{}: no {g}, {q} or {p}", dir.display()));
+        return Err(format!("{}: no {g}, {q}, {p} or {c}", dir.display()));
     }
     match Hang::from_files(files) {
         Ok(hang) => Ok(hang.to_string()),
