@@ -11,14 +11,6 @@ pub enum Counted {
     Not(f64),
 }
 
-impl Counted {
-    pub fn seconds(&self) -> f64 {
-        match self {
-            Counted::In(_, seconds) | Counted::Not(seconds) => *seconds,
-        }
-    }
-}
-
 #[derive(Clone, Copy, PartialEq)]
 pub enum Program {
     Sqlite,

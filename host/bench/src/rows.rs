@@ -137,6 +137,32 @@ impl Bench<'_> {
         )
     }
 
+    /// Forty changes, half of them additions, into a new store: beside Load of the edited graph, whose words they leave.
+    pub fn change(&self) -> Row {
+        let (changes, edited) = self.graph.changed(40);
+        let old = &self.store;
+        let mut loaded = vec![0; files::store_words(edited.labels.len(), edited.edges.len())];
+        let counts = trace::load_into(&edited.file(), &mut loaded).expect("the edited graph is loaded");
+        let counts = Ok((counts.vertices, counts.edges));
+        let mut stores: [Vec<u32>; 3] = std::array::from_fn(|_| vec![1; loaded.len()]);
+        let [one, two, three] = &mut stores;
+        let applied = |store: &mut [u32]| {
+            let counts = trace::apply_changes_into(old, &changes, store).map_err(|refusal| refusal.number())?;
+            Ok((counts.vertices, counts.edges))
+        };
+        let row = self.row(
+            "forty changes",
+            None,
+            [
+                &mut || assert_eq!(merge::apply_changes(old, &changes, one), counts),
+                &mut || assert_eq!(same::apply_changes(old, &changes, two), counts),
+                &mut || assert_eq!(applied(three), counts),
+            ],
+        );
+        assert!(stores.iter().all(|store| *store == loaded), "three stores are that of the edited graph");
+        row
+    }
+
     /// A run in scratch and list of just the words that it needs, which were in use before.
     pub fn run(&self, case: &Case, cache: bool, databases: [Option<&Database>; 2]) -> Row {
         let (store, query, plan) = (&self.store[..], case.query(), case.plan());

@@ -15,6 +15,7 @@ pub struct Sheet {
     caches: &'static [bool],
     /// Whether the databases count the rows too.
     databases: bool,
+    /// Whether a plan is drawn and changes are applied.
     draws: bool,
     /// The patterns whose drawn plan is measured beside all orderings.
     pub drawn: Vec<Case>,
@@ -88,7 +89,7 @@ impl Sheet {
         let mut bench = Bench { meter, shape: self.shape.name(), graph: &graph, store };
         let mut rows = vec![bench.load(), bench.check()];
         if self.draws {
-            rows.push(bench.draw());
+            rows.extend([bench.draw(), bench.change()]);
         }
         let limit = database_seconds.filter(|_| self.databases);
         let databases = PROGRAMS.map(|program| {
