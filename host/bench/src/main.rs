@@ -1,6 +1,6 @@
 //! Measures the engine beside two plain versions in safe Rust and two databases, and prints the tables as Markdown.
 //!
-//!     bench [--quick] [--rounds N] [--seconds S] [--database-seconds S] [--only WORD] [--no-counts]
+//!     bench [--quick] [--rounds N] [--seconds S] [--database-seconds S] [--only WORD] [--case WORD] [--no-counts]
 
 mod cases;
 mod counts;
@@ -26,6 +26,8 @@ struct Options {
     database: Option<f64>,
     /// Only sheets with this in their shapes.
     only: String,
+    /// Only cases with this in their names.
+    case: String,
     counts: bool,
     /// Instructions are counted, of this part of so many.
     count: Option<(usize, usize)>,
@@ -50,6 +52,7 @@ fn options() -> Options {
         },
         database: (limit > 0.0).then_some(limit),
         only: value("--only").unwrap_or_default(),
+        case: value("--case").unwrap_or_default(),
         counts: !has("--no-counts"),
         count: value("--count").map(part),
     }
@@ -76,14 +79,15 @@ fn main() {
     let measured = |sheet: &Sheet| sheet.table(Meter::Timed(options.rounds), sheet.edges, options.database);
     let mut tables: Vec<Table> = Vec::new();
     println!("## Tables\n");
-    for sheet in sheets::sheets().iter().filter(|sheet| sheet.shape.name().contains(&options.only)) {
+    for sheet in sheets::sheets().iter_mut().filter(|sheet| sheet.shape.name().contains(&options.only)) {
+        sheet.keep(&options.case);
         let table = measured(sheet);
         println!("{}", table.markdown(&counts));
         tables.push(table);
     }
     println!("## Drawn plans\n\n{}", include_str!("drawn.md"));
     println!("{}", report::drawn(&tables));
-    if options.only.is_empty() {
+    if options.only.is_empty() && options.case.is_empty() {
         let sheets = sheets::growth();
         let sizes: Vec<usize> = sheets.iter().map(|sheet| sheet.edges).collect();
         let grown: Vec<Table> = sheets.iter().map(measured).collect();

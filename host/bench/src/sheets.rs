@@ -81,6 +81,12 @@ pub fn growth() -> Vec<Sheet> {
 }
 
 impl Sheet {
+    /// Keeps the cases with a word in their names.
+    pub fn keep(&mut self, word: &str) {
+        self.cases.retain(|case| case.name.contains(word));
+        self.drawn.retain(|case| case.name.contains(word));
+    }
+
     /// Measures the sheet's work on its graph of so many edges; databases have so many seconds a query.
     pub fn table(&self, meter: Meter, edges: usize, database_seconds: Option<f64>) -> Table {
         let graph = self.shape.graph(edges);
