@@ -1,4 +1,5 @@
-/* Loads a graph of four vertices, lists its triangles with the work of each operator, draws a plan for them, and shows two refusals. */
+/* Loads a graph of four vertices, lists its triangles with the work of each operator, draws a plan for them, adds an edge, and shows
+ * three refusals. */
 #include <inttypes.h>
 #include <stddef.h>
 #include <stdio.h>
@@ -19,7 +20,10 @@ static const uint8_t query[] = {
 };
 static const uint8_t plan[] = {0x10, 0x05, 0x00};
 
-static uint32_t store[30], scratch[17], list[6];
+/* One change: the edge 0->3 of label 1 is added. */
+static const uint8_t changes[] = {0x00, 0x00, 0x18, 0x00, 0x00, 0x08, 0x00, 0x18};
+
+static uint32_t store[30], changed[32], scratch[64], list[12];
 static struct trace_record records[2];
 
 /* The layout that the library was compiled with. */
@@ -61,5 +65,15 @@ int main(void)
     for (uint64_t i = 0; i < bytes; i++)
         printf(" %02x", (unsigned)drawn[i]);
     printf("\n");
+
+    refusal = trace_apply_changes(store, 30, changes, sizeof changes, changed, 32, &vertices, &edges);
+    printf("changed: refusal %" PRIu32 ", graph %" PRIu64 " %" PRIu64 "\n", refusal, vertices, edges);
+    refusal = trace_run(changed, 32, query, sizeof query, plan, sizeof plan, true, scratch, 64, list, 12, records, 2,
+                        &rows, &cost, &build, &probe);
+    printf("changed: refusal %" PRIu32 ", matches %" PRIu64 " cost %" PRIu64 "\n", refusal, rows, cost);
+    for (uint64_t i = 0; i < rows; i++)
+        printf("%" PRIu32 " %" PRIu32 " %" PRIu32 "\n", list[3 * i], list[3 * i + 1], list[3 * i + 2]);
+    refusal = trace_apply_changes(changed, 32, changes, sizeof changes, store, 30, &vertices, &edges);
+    printf("changed again: %s\n", refusal == TRACE_CHANGES_EDGE ? "refused 28" : "accepted");
     return 0;
 }

@@ -17,7 +17,8 @@ fn the_examples() {
     let examples = Path::new(concat!(env!("CARGO_MANIFEST_DIR"), "/../examples"));
     let mut count = 0;
     let entries = std::fs::read_dir(examples).unwrap().map(|entry| entry.unwrap().path());
-    for folder in entries.filter(|path| path.is_dir()) {
+    // Where there is no plan, the engine draws one, from Rust or C: the example `changed`, which host/test runs.
+    for folder in entries.filter(|path| path.join("p.bin").exists()) {
         let read = |name: &str| std::fs::read(folder.join(name)).unwrap_or_else(|e| panic!("{folder:?}, {name}: {e}"));
         let files = FILES.map(&read);
         let expected = String::from_utf8(read("expected.txt")).unwrap();

@@ -1,18 +1,16 @@
 -- The refusals in their order, and what is answered and left, refused and accepted. Assumes nothing.
-use mathlib.Core.Path.{_≡_, refl, sym, _∙_, ap, ap₂}
-use mathlib.Core.Bool.{Bool, true}
+use mathlib.Core.Path.{_≡_, sym, _∙_, ap, ap₂}
 use mathlib.Core.List.{List, [], _∷_, _++_}
-use Prim.Native.Nat.{ℕ, suc, _+_, _*_, _≤_, _<_}
+use Prim.Native.Nat.{ℕ, _+_, _*_, _≤_, _<_}
 use native.Mathlib.Omega.{arith}
-use lib.Dec.{eqb, ltb}
+use lib.Dec.{ltb}
 use lib.ListN.{length, drop}
-use borrow.Author.Tests.{lt-ltb, le-ltb, ltb-false, ne-eqb, eq-eqb}
+use borrow.Author.Tests.{lt-ltb, le-ltb, ltb-false, ne-eqb}
 use Rattle.lists.specs.Lists.{range, count}
 use Rattle.lists.specs.Refusal.{refuse, first}
 use Rattle.lists.proofs.Count.{count-map}
 use Rattle.lists.proofs.Maps.{length-image}
-use Rattle.lists.proofs.Faults.{first-head, first-tail, first-cons, first-some, first-one, refuse-zero}
-use Rattle.graph.specs.Graph.{Graph}
+use Rattle.lists.proofs.Faults.{first-head, first-tail, first-cons, first-some, refuse-zero}
 use Rattle.graph.specs.Store.{graphIn, storeFault, storeOf, storeSize, usedWords}
 use Rattle.store.specs.inner.Side.{verticesIn, edgesIn}
 use Rattle.store.proofs.Accepted.{graph-formed, store-vertices, store-edges}
@@ -20,8 +18,8 @@ use Rattle.changes.specs.File.{Change, changeCount, addsIn, changesOf, c
 use Rattle.changes.specs.Edit.{editFault, editedGraph, applyChanges, applyFault, applyAnswer, changedStore}
 use Rattle.changes.specs.inner.Reading.{Sized}
 use Rattle.changes.specs.inner.Fill.{Accepted}
-use Rattle.changes.proofs.EditedGraph.{Applied, applied-size}
-use Rattle.changes.proofs.Present.{changeAt, file-sized, changes-fit, changes-ascend}
+use Rattle.changes.proofs.EditedGraph.{applied-size}
+use Rattle.changes.proofs.Present.{changeAt, file-sized}
 use Rattle.changes.proofs.Filled.{applied-parts}
 
 -- What is known after 19, 27 and 28.

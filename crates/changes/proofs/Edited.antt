@@ -1,14 +1,14 @@
 -- The edges of the edited graph: since a change adds an absent edge or takes a present one, each toggles its edge. Assumes nothing.
-use mathlib.Core.Path.{_≡_, refl, sym, _∙_, ap, ap₂}
+use mathlib.Core.Path.{_≡_, refl, sym, _∙_, ap₂}
 use mathlib.Core.Bool.{Bool, true, false, cond, not, _&&_, _||_}
 use mathlib.Core.List.{List, [], _∷_, _++_, map}
-use Prim.Native.Nat.{ℕ, zero, suc, _+_, _*_, _≤_, _<_}
+use Prim.Native.Nat.{ℕ, suc, _+_, _*_, _<_}
 use native.Mathlib.Omega.{arith}
 use lib.Dec.{eqb, ltb}
 use lib.ListN.{length}
 use borrow.Author.Tests.{eqb-true, ne-eqb, ltb-true}
-use Rattle.lists.specs.Lists.{bit, all, any, keep, count, ascending, ascendsFrom, sort}
-use Rattle.lists.proofs.Tests.{and-l, and-r, eqb-sym, fails, clash, not-true}
+use Rattle.lists.specs.Lists.{bit, all, any, keep, count, ascending}
+use Rattle.lists.proofs.Tests.{and-l, and-r, eqb-sym, clash, not-true}
 use Rattle.lists.proofs.All.{all-true}
 use Rattle.lists.proofs.Any.{any-fails}
 use Rattle.lists.proofs.Count.{count-append, count-map, count-keep, count-sum, count-const, count-under, count-passes, count-all, all-map}

@@ -1,16 +1,14 @@
 -- The edited graph is well-formed, and its edges are the toggled ones. Assumes nothing.
-use mathlib.Core.Path.{_≡_, refl, sym, _∙_, ap}
-use mathlib.Core.Bool.{Bool, true, _&&_}
+use mathlib.Core.Path.{_≡_, _∙_, ap}
+use mathlib.Core.Bool.{Bool, true}
 use mathlib.Core.List.{List, map, map-map, map-id}
-use Prim.Native.Nat.{ℕ, suc, _+_, _*_, _/_, _%_, _<_}
+use Prim.Native.Nat.{ℕ, _+_, _*_, _<_}
 use native.Mathlib.Omega.{arith}
-use lib.Dec.{ltb}
 use lib.ListN.{length, length-map}
 use Rattle.lists.specs.Lists.{all, ascending}
 use Rattle.lists.proofs.All.{all-follows}
 use Rattle.lists.proofs.Count.{all-map}
-use Rattle.graph.specs.Graph.{Edge, Graph, forward, entry, key}
-use Rattle.graph.specs.Store.{entryEdge}
+use Rattle.graph.specs.Graph.{Edge, Graph, forward, key}
 use Rattle.graph.proofs.WellFormed.{WellFormed, fitting}
 use Rattle.graph.proofs.Keys.{key-entry, key-near, edge-of}
 use Rattle.changes.specs.File.{Change}

@@ -1,34 +1,38 @@
 -- What is merged and mirrored is the edited graph's store. Assumes nothing.
 use mathlib.Core.Path.{_≡_, refl, sym, _∙_, ap, ap₂}
-use mathlib.Core.Bool.{Bool, true, not, _&&_}
+use mathlib.Core.Bool.{Bool, true, false}
 use mathlib.Core.List.{List, [], _∷_, _++_, map, append-assoc}
 use Prim.Native.Nat.{ℕ, suc, _+_, _-_, _*_, _≤_, _<_}
-use native.Mathlib.Numerals.{add-one}
+use native.Mathlib.Nat.{mul-le-mul-left}
 use native.Mathlib.Omega.{arith}
-use lib.Dec.{ltb}
+use lib.Dec.{eqb, ltb}
 use lib.ListN.{length, set, take, drop, length-append, length-map, length-drop, take-append-drop}
+use borrow.Author.Tests.{eqb-true, ltb-true, ltb-false}
 use lib.Seq.{take-at, drop-at, drop-drop, take-take, length-take-le}
-use Rattle.lists.specs.Lists.{all, ascending}
+use Rattle.lists.specs.Lists.{range, all, ascending}
 use Rattle.lists.proofs.Tests.{not-false}
 use Rattle.lists.proofs.Faults.{refuse-zero}
+use Rattle.lists.proofs.Sort.{length-sort, sort-ascending}
+use Rattle.lists.proofs.Maps.{length-image}
 use Rattle.lists.proofs.Parts.{rest-at, drop-take}
-use Rattle.graph.specs.Graph.{Graph, forward, backward, key}
+use Rattle.graph.specs.Graph.{Direction, forward, backward, key}
 use Rattle.graph.specs.Store.{graphIn, storeFault, offsets, entries, storeOf, usedWords}
 use Rattle.graph.proofs.WellFormed.{WellFormed, formed-well}
-use Rattle.graph.proofs.Keys.{sortedKeys, forward-keys}
+use Rattle.graph.proofs.Keys.{sortedKeys}
 use Rattle.graph.proofs.Parts.{length-offsets, length-entries, store-shape}
 use Rattle.load.proofs.Written.{tail-back}
 use Rattle.store.specs.inner.Side.{sideIn, verticesIn, edgesIn}
-use Rattle.store.proofs.Accepted.{graph-formed, store-vertices, store-length}
+use Rattle.store.proofs.Accepted.{graph-formed, store-vertices, store-edges, store-length}
 use Rattle.mirror.specs.inner.Mirror.{ForwardSide, Mirrorable, Mirrored}
-use Rattle.changes.specs.File.{changeCount, changesOf, changeFault}
-use Rattle.changes.specs.Edit.{changeKey, keysOf, applies, applyChanges, editFault, editedGraph}
+use Rattle.changes.specs.File.{changeCount, changedEdge, changesOf, changeFault}
+use Rattle.changes.specs.Edit.{changeKey, applyChanges, editFault, editedGraph}
 use Rattle.changes.specs.inner.Toggle.{toggled}
-use Rattle.changes.specs.inner.Merge.{sideKeys, Ordered, sideWords, keysOn, SideOf, Fitting}
-use Rattle.changes.specs.inner.Fill.{Accepted, forwardOf, sidesOf, HeadKept}
-use Rattle.changes.proofs.EditedGraph.{Applied, applied-keys, applied-formed}
+use Rattle.changes.specs.inner.Merge.{changeKeys, sideKeys, Keyed, sideWords, keysOn, SideOf, Fitting}
+use Rattle.changes.specs.inner.Fill.{Accepted, Distinct, wordsOn, sidesOf, HeadKept}
+use Rattle.changes.proofs.EditedGraph.{Applied, applied-formed}
 use Rattle.changes.proofs.Present.{file-sized, changes-fit, changes-ascend}
-use Rattle.changes.proofs.Sides.{side-of, side-keys, side-words, forward-changes, forward-ascend, forward-bounded}
+use Rattle.changes.proofs.Directions.{keys-listed, change-keys, back-once, applied-ascend, applied-bounded, applied-sorted}
+use Rattle.changes.proofs.Sides.{side-of, side-keys, side-words, forward-changes}
 
 -- Changes that are not refused can be applied.
 pub applied-parts : (old : List ℕ) (n : ℕ) (s : List ℕ) → storeFault old ≡ 0 → n ≡ verticesIn old → changeFault n s ≡ 0
@@ -49,6 +53,13 @@ module _ {old : List ℕ} {n : ℕ} {s : List ℕ} {k : ℕ} (h : Accepted old n
   pub low-vertices : n < 65536
   low-vertices = rw n-is (graph-formed old (h .store) .few-vertices)
 
+  pub at-forward : 2 + 2 * n ≡ sideIn forward old
+  at-forward = omega (arith, h .vertices)
+
+  pub old-counts : (2 ≤ length old) × (edgesIn old < 1048576)
+  old-counts =
+      (omega (arith, store-length old (h .store)), omega (arith, store-edges old (h .store), graph-formed old (h .store) .few-edges))
+
   pub applied : Applied (graphIn old) (changesOf s)
   applied = applied-parts old n s (h .store) (h .vertices) (h .file) (h .edits)
 
@@ -56,48 +67,69 @@ module _ {old : List ℕ} {n : ℕ} {s : List ℕ} {k : ℕ} (h : Accepted old n
   new-formed = applied-formed (graphIn old) (changesOf s) applied (h .few)
 
   -- The merged keys are those of the edited graph.
-  module _ {at : ℕ} (b : at ≡ 2 + 2 * n) where
-    at-is : at ≡ sideIn forward old
-    at-is = omega (arith, h .vertices)
+  module _ (d : Direction) (keys : List ℕ) {at : ℕ} (b : at ≡ sideIn d old) (c : sideKeys s keys ≡ changeKeys d s) where
+    old-keys : keysOn old n at ≡ sortedKeys d (graphIn old)
+    old-keys = ap₂ (λ (x y : ℕ). keysOn old x y) n-is b ∙ side-keys old (h .store) d
 
-    old-keys : keysOn old n at ≡ keysOf (graphIn old)
-    old-keys =
-        ap₂ (λ (x y : ℕ). keysOn old x y) n-is at-is ∙ side-keys old (h .store) forward ∙ forward-keys (graphIn old) (graph-formed old (h .store))
+    new-keys : toggled (keysOn old n at) (sideKeys s keys) ≡ sortedKeys d (editedGraph old s)
+    new-keys = ap₂ toggled old-keys (c ∙ change-keys d s) ∙ applied-sorted (graphIn old) (changesOf s) applied (h .few) d
 
-    pub new-keys : toggled (keysOn old n at) (sideKeys s []) ≡ sortedKeys forward (editedGraph old s)
-    new-keys =
-        ap₂ toggled old-keys (forward-changes s) ∙ sym (applied-keys (graphIn old) (changesOf s) applied) ∙ sym (forward-keys (editedGraph old s) new-formed)
-
-    pub new-size : length (toggled (keysOn old n at) (sideKeys s [])) ≡ length (editedGraph old s .edges)
-    new-size =
-        ap length (ap₂ toggled old-keys (forward-changes s) ∙ sym (applied-keys (graphIn old) (changesOf s) applied)) ∙ length-map (editedGraph old s .edges) (key forward)
+    new-size : length (toggled (keysOn old n at) (sideKeys s keys)) ≡ length (editedGraph old s .edges)
+    new-size = ap length new-keys ∙ length-sort (map (key d) (editedGraph old s .edges)) ∙ length-map (editedGraph old s .edges) (key d)
 
     pub side-old : SideOf old n at (keysOn old n at)
-    side-old =
-        rw (ap₂ (λ (x y : ℕ). keysOn old x y) n-is at-is ∙ side-keys old (h .store) forward, n-is, at-is) (side-of old (h .store) forward)
+    side-old = rw (old-keys, n-is, b) (side-of old (h .store) d)
 
-    pub side-fits : {room : ℕ} → suc n + length (editedGraph old s .edges) ≤ room → Fitting (keysOn old n at) (sideKeys s []) n room
+    pub side-fits : {room : ℕ} → suc n + length (editedGraph old s .edges) ≤ room → Fitting (keysOn old n at) (sideKeys s keys) n room
     side-fits r =
         record {
-          few = rw n-is (graph-formed old (h .store) .few-vertices);
-          changes-ascend = forward-ascend n s (h .file);
-          changes-bounded = forward-bounded n s (h .file);
+          few = low-vertices;
+          changes-ascend = ap ascending (c ∙ change-keys d s) ∙ applied-ascend (graphIn old) (changesOf s) applied d;
+          changes-bounded = ap₂ (λ (x : ℕ) (l : List ℕ). all (λ (k : ℕ). ltb k (x * 16777216)) l) n-is (c ∙ change-keys d s) ∙ applied-bounded (graphIn old) (changesOf s) applied d;
           countable = omega (arith, new-size, h .few);
           fits = omega (arith, new-size, r);
         }
 
     pub side-made : (side : List ℕ) {out : List ℕ}
-        → out ≡ sideWords n (toggled (keysOn old n at) (sideKeys s [])) ++ drop (suc n + length (toggled (keysOn old n at) (sideKeys s []))) side
-        → out ≡ forwardOf (editedGraph old s) ++ drop (suc n + length (editedGraph old s .edges)) side
+        → out ≡ sideWords n (toggled (keysOn old n at) (sideKeys s keys)) ++ drop (suc n + length (toggled (keysOn old n at) (sideKeys s keys))) side
+        → out ≡ wordsOn d (editedGraph old s) ++ drop (suc n + length (editedGraph old s .edges)) side
     unfolding applyChanges
     side-made side e =
         e
         ∙ ap₂ (λ (l : List ℕ) (p : ℕ). l ++ drop (suc n + p) side)
-        (ap₂ sideWords n-is new-keys ∙ side-words (editedGraph old s) new-formed forward) new-size
+        (ap₂ sideWords n-is new-keys ∙ side-words (editedGraph old s) new-formed d) new-size
 
-  pub no-order : Ordered s []
-  no-order =
-      record { sized = file-sized n s (h .file); full = λ z. absurd (z refl); numbers = λ i l. absurd (omega arith) }
+  -- The forward keys are in the file; the backward ones are sorted.
+  pub no-keys : Keyed s []
+  no-keys = record { sized = file-sized n s (h .file); full = λ z. absurd (z refl) }
+
+  pub filed : sideKeys s [] ≡ changeKeys forward s
+  filed = forward-changes s ∙ sym (change-keys forward s ∙ sort-ascending (map changeKey (changesOf s)) (changes-ascend n s (h .file)))
+
+  pub distinct : Distinct s
+  distinct x = rw (keys-listed backward s) (back-once (graphIn old) (changesOf s) applied x)
+
+  module _ {keys : List ℕ} (e : keys ≡ changeKeys backward s) where
+    pub sorted-size : length keys ≡ changeCount s
+    unfolding changeKeys
+    sorted-size = ap length e ∙ length-sort _ ∙ length-image (λ (i : ℕ). key backward (changedEdge s i)) (changeCount s)
+
+    pub some-keys : Keyed s keys
+    some-keys = record { sized = file-sized n s (h .file); full = λ z. sorted-size }
+
+    pub sorted : sideKeys s keys ≡ changeKeys backward s
+    unfolding sideKeys range
+    sorted = go (eqb (length keys) 0) refl
+      where
+        nothing : (l : List ℕ) → length l ≡ 0 → l ≡ []
+        nothing [] e = refl
+        nothing (x ∷ l) e = absurd (omega arith)
+
+        go : (b : Bool) → eqb (length keys) 0 ≡ b → sideKeys s keys ≡ changeKeys backward s
+        go true t =
+            let z : changeCount s ≡ 0 = sym sorted-size ∙ eqb-true (length keys) 0 t in
+            rw t (ap (λ (c : ℕ). map (λ (i : ℕ). key forward (changedEdge s i)) (range c)) z ∙ sym (nothing keys (eqb-true (length keys) 0 t)) ∙ e)
+        go false t = rw t e
 
   -- ---- both sides
 
@@ -105,13 +137,13 @@ module _ {old : List ℕ} {n : ℕ} {s : List ℕ} {k : ℕ} (h : Accepted old n
   unfolding applyChanges
   new-vertices = n-is
 
-  forward-size : length (forwardOf (editedGraph old s)) ≡ suc n + length (editedGraph old s .edges)
+  forward-size : length (wordsOn forward (editedGraph old s)) ≡ suc n + length (editedGraph old s .edges)
   forward-size =
       length-append (offsets forward (editedGraph old s)) (entries forward (editedGraph old s))
       ∙ ap₂ (λ (x y : ℕ). x + y) (length-offsets forward (editedGraph old s) ∙ ap suc (sym new-vertices)) (length-entries forward (editedGraph old s))
 
   module _ (side : List ℕ) {m : ℕ} (e : m ≡ length (editedGraph old s .edges)) (room : n + 1 + m + (n + 1 + m) ≤ length side)
-      {one : List ℕ} (a : one ≡ forwardOf (editedGraph old s) ++ drop (suc n + length (editedGraph old s .edges)) side) where
+      {one : List ℕ} (a : one ≡ wordsOn forward (editedGraph old s) ++ drop (suc n + length (editedGraph old s .edges)) side) where
     place : n + 1 + m ≡ suc n + length (editedGraph old s .edges)
     place = omega arith
 
@@ -124,23 +156,45 @@ module _ {old : List ℕ} {n : ℕ} {s : List ℕ} {k : ℕ} (h : Accepted old n
           formed = formed-well (editedGraph old s) new-formed;
           vertices = new-vertices;
           edges = e;
-          words = ap (take (n + 1 + m)) a ∙ take-at (forwardOf (editedGraph old s)) (drop (suc n + length (editedGraph old s .edges)) side) (n + 1 + m) (forward-size ∙ sym place);
+          words = ap (take (n + 1 + m)) a ∙ take-at (wordsOn forward (editedGraph old s)) (drop (suc n + length (editedGraph old s .edges)) side) (n + 1 + m) (forward-size ∙ sym place);
         }
 
     pub one-mirrorable : Mirrorable one n m
     one-mirrorable = record { graph = editedGraph old s; its = one-forward; room = omega (arith, one-long) }
 
-    pub sides-made : {two three : List ℕ} → Mirrored one n m two → three ≡ forwardOf (editedGraph old s) ++ drop (suc n + length (editedGraph old s .edges)) two
+    one-rest : drop (n + 1 + m + (n + 1 + m)) one ≡ drop (n + 1 + m + (n + 1 + m)) side
+    one-rest =
+        sym (drop-drop (n + 1 + m) (n + 1 + m) one)
+        ∙ ap (drop (n + 1 + m)) (ap (drop (n + 1 + m)) a ∙ drop-at (wordsOn forward (editedGraph old s)) (drop (suc n + length (editedGraph old s .edges)) side) (n + 1 + m) (forward-size ∙ sym place) ∙ ap (λ (p : ℕ). drop p side) (sym place))
+        ∙ drop-drop (n + 1 + m) (n + 1 + m) side
+
+    pub sides-made : {two three : List ℕ} → Mirrored one n m two → three ≡ wordsOn forward (editedGraph old s) ++ drop (suc n + length (editedGraph old s .edges)) two
         → three ≡ sidesOf (editedGraph old s) ++ drop (n + 1 + m + (n + 1 + m)) side
     sides-made {two} {three} b c =
-        c ∙ ap (λ (l : List ℕ). forwardOf (editedGraph old s) ++ l) (ap (λ (p : ℕ). drop p two) (sym place) ∙ b .back (editedGraph old s) one-forward ∙ ap (λ (l : List ℕ). offsets backward (editedGraph old s) ++ (entries backward (editedGraph old s) ++ l)) rest)
+        c ∙ ap (λ (l : List ℕ). wordsOn forward (editedGraph old s) ++ l) (ap (λ (p : ℕ). drop p two) (sym place) ∙ b .back (editedGraph old s) one-forward ∙ ap (λ (l : List ℕ). offsets backward (editedGraph old s) ++ (entries backward (editedGraph old s) ++ l)) one-rest)
         ∙ simp append-assoc
-      where
-        rest : drop (n + 1 + m + (n + 1 + m)) one ≡ drop (n + 1 + m + (n + 1 + m)) side
-        rest =
-            sym (drop-drop (n + 1 + m) (n + 1 + m) one)
-            ∙ ap (drop (n + 1 + m)) (ap (drop (n + 1 + m)) a ∙ drop-at (forwardOf (editedGraph old s)) (drop (suc n + length (editedGraph old s .edges)) side) (n + 1 + m) (forward-size ∙ sym place) ∙ ap (λ (p : ℕ). drop p side) (sym place))
-            ∙ drop-drop (n + 1 + m) (n + 1 + m) side
+
+    -- Or the backward side is merged into the part after the forward one.
+    pub sides-merged : {two : List ℕ}
+        → two ≡ wordsOn backward (editedGraph old s) ++ drop (suc n + length (editedGraph old s .edges)) (take (length one - (n + 1 + m)) (drop (n + 1 + m) one))
+        → take (n + 1 + m) one ++ (two ++ drop (length one - (n + 1 + m)) (drop (n + 1 + m) one)) ≡ sidesOf (editedGraph old s) ++ drop (n + 1 + m + (n + 1 + m)) side
+    sides-merged {two} b =
+        tail-back one two (n + 1 + m) (omega (arith, one-long))
+        ∙ ap₂ (λ (x y : List ℕ). x ++ y) (one-forward .words)
+        (b ∙ ap (λ (l : List ℕ). wordsOn backward (editedGraph old s) ++ l)
+        (ap₂ drop (sym place) (rest-at one (n + 1 + m)) ∙ drop-drop (n + 1 + m) (n + 1 + m) one ∙ one-rest))
+        ∙ simp append-assoc
+
+-- Few changes are fewer than 1024.
+pub square-fits : (k : ℕ) → k < 1048576 → k * k < 18446744073709551616
+square-fits k h = let l : k * k ≤ k * 1048576 = mul-le-mul-left k (omega arith) in omega arith
+
+pub few-changes : (k : ℕ) {m : ℕ} → k * k ≤ m → m < 1048576 → k < 1024
+few-changes k {m} h l = go (ltb k 1024) refl
+  where
+    go : (b : Bool) → ltb k 1024 ≡ b → k < 1024
+    go true t = ltb-true k 1024 t
+    go false t = let w : k * 1024 ≤ k * k = mul-le-mul-left k (ltb-false k 1024 t) in absurd (omega (arith, ltb-false k 1024 t))
 
 -- ---- the head
 

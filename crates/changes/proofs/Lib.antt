@@ -1,6 +1,9 @@
 -- Laws of changes: their file, and the edited graph.
 pub mod Reading
 pub mod Toggles
+pub mod Flips
+pub mod OtherKeys
+pub mod Inserting
 pub mod Edited
 pub mod EditedGraph
 pub mod Merging
@@ -8,6 +11,7 @@ pub mod Nexts
 pub mod Parting
 pub mod Siding
 pub mod Present
+pub mod Directions
 pub mod Sides
 pub mod Filled
 pub mod Answers

@@ -3,16 +3,15 @@ use mathlib.Core.Path.{_≡_, refl, sym, _∙_, ap}
 use mathlib.Core.Bool.{true}
 use mathlib.Core.List.{List, _++_}
 use Prim.Native.Nat.{ℕ, _≤_}
-use native.Mathlib.Omega.{arith}
 use lib.ListN.{length, drop}
 use Rattle.graph.specs.Graph.{Graph}
 use Rattle.graph.specs.File.{graphOf}
-use Rattle.graph.specs.Store.{storeOf, storeSize, wellFormed, loadFault, loadStore, graphIn}
+use Rattle.graph.specs.Store.{storeOf, storeSize, wellFormed, loadFault, loadStore}
 use Rattle.graph.specs.inner.Encode.{encode}
 use Rattle.graph.proofs.WellFormed.{formed-well}
 use Rattle.graph.proofs.EncodeGraph.{encode-bytes, encode-accepted, encode-read}
 use Rattle.graph.proofs.Loads.{load-fits, load-store, load-accepted}
-use Rattle.changes.specs.Edit.{editedGraph, applyChanges, applyFault, changedStore}
+use Rattle.changes.specs.Edit.{editedGraph, applyFault, changedStore}
 use Rattle.changes.specs.Claims.{LoadsEdited}
 use Rattle.changes.proofs.Filled.{new-formed}
 use Rattle.changes.proofs.Answers.{accepted-all, size-fits, store-is}

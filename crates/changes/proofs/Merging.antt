@@ -1,8 +1,8 @@
 -- The merge of a vertex's list with its changes: its loop. Assumes nothing.
 use mathlib.Core.Path.{_≡_, refl, sym, _∙_, ap, ap₂}
-use mathlib.Core.Bool.{Bool, true, false, cond, not, _&&_}
+use mathlib.Core.Bool.{Bool, true, false, not}
 use mathlib.Core.List.{List, [], _∷_, _++_, map, append-assoc, append-nil}
-use Prim.Native.Nat.{ℕ, zero, suc, _+_, _-_, _*_, _/_, _%_, _≤_, _<_}
+use Prim.Native.Nat.{ℕ, suc, _+_, _-_, _*_, _/_, _%_, _≤_, _<_}
 use native.Mathlib.Nat.{le-of-eq}
 use native.Mathlib.Numerals.{add-one}
 use native.Mathlib.Omega.{arith}
@@ -10,7 +10,7 @@ use lib.Dec.{eqb, ltb}
 use lib.ListN.{length, getD, set, take, drop, length-append, length-set, length-drop, drop-of-length-le, List·getD-eq-default}
 use lib.Seq.{drop-cons, drop-drop, take-suc-set, drop-set-lt, length-take-le}
 use borrow.Author.Tests.{eqb-true, eqb-false, eq-eqb, ne-eqb, ltb-true, lt-ltb, ltb-false, le-ltb}
-use Rattle.lists.specs.Lists.{all, keep, ascending, ascendsFrom}
+use Rattle.lists.specs.Lists.{all, keep, ascending}
 use Rattle.lists.proofs.Tests.{and-l, and-r, and-both, not-true}
 use Rattle.lists.proofs.All.{all-follows, keep-none, kept}
 use Rattle.lists.proofs.Sort.{ascends-above, ascends-tail, ascending-keep, ascending-map}
@@ -18,7 +18,7 @@ use Rattle.lists.proofs.Ascending.{ascending-drop}
 use Rattle.lists.proofs.Parts.{rest-at}
 use Rattle.graph.proofs.Keys.{key-at}
 use Rattle.changes.specs.inner.Toggle.{toggled}
-use Rattle.changes.specs.inner.Merge.{keyAt, entriesOf, entryAt, nextEntry, Mergeable}
+use Rattle.changes.specs.inner.Merge.{keyAt, entriesOf, nextEntry, Mergeable}
 use Rattle.changes.proofs.Toggles.{toggled-left, toggled-both, toggled-right}
 
 -- ---- the changes of a vertex

@@ -1,18 +1,18 @@
 -- The entries of one vertex after another, of ascending keys and of toggled ones. Assumes nothing.
-use mathlib.Core.Path.{_≡_, refl, sym, _∙_, ap, ap₂}
-use mathlib.Core.Bool.{Bool, true, false, cond, not, _&&_}
-use mathlib.Core.List.{List, [], _∷_, _++_, map, map-map, map-id, map-append, flatMap}
-use Prim.Native.Nat.{ℕ, zero, suc, _+_, _-_, _*_, _/_, _%_, _≤_, _<_}
+use mathlib.Core.Path.{_≡_, refl, sym, _∙_, ap}
+use mathlib.Core.Bool.{Bool, true, false, not, _&&_}
+use mathlib.Core.List.{List, [], _∷_, _++_, map, map-map, map-id, map-append}
+use Prim.Native.Nat.{ℕ, suc, _+_, _*_, _/_, _%_, _<_}
 use native.Mathlib.Omega.{arith}
 use lib.Dec.{eqb, ltb}
-use lib.ListN.{length, take, drop, length-append, length-map}
+use lib.ListN.{length, drop, length-append, length-map}
 use lib.Seq.{drop-at}
-use borrow.Author.Tests.{eqb-true, eqb-false, eq-eqb, ne-eqb, ltb-true, lt-ltb, ltb-false, le-ltb}
-use Rattle.lists.specs.Lists.{range, all, keep, count, ascending, ascendsFrom}
-use Rattle.lists.proofs.Tests.{iff, and-l, and-r, and-both, not-true}
-use Rattle.lists.proofs.All.{kept, keep-ext, keep-keep, keep-all, all-follows}
+use borrow.Author.Tests.{eqb-true, eqb-false, ne-eqb, lt-ltb, le-ltb}
+use Rattle.lists.specs.Lists.{all, keep, count, ascending, ascendsFrom}
+use Rattle.lists.proofs.Tests.{and-both}
+use Rattle.lists.proofs.All.{kept, keep-ext, keep-keep, keep-all}
 use Rattle.lists.proofs.Count.{length-keep, count-none}
-use Rattle.lists.proofs.Maps.{map-under, flatMap-range-ext}
+use Rattle.lists.proofs.Maps.{map-under}
 use Rattle.lists.proofs.Sort.{ascends-tail, ascends-above}
 use Rattle.lists.proofs.Cut.{cut, keep-below, cut-parts}
 use Rattle.graph.proofs.Keys.{key-at}

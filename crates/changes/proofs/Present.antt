@@ -2,15 +2,15 @@
 use mathlib.Core.Path.{_≡_, refl, sym, _∙_, ap, ap₂}
 use mathlib.Core.Bool.{Bool, true, false, cond, not, _&&_}
 use mathlib.Core.List.{List, [], _∷_, map, map-map}
-use Prim.Native.Nat.{ℕ, zero, suc, _+_, _-_, _≤_, _<_}
+use Prim.Native.Nat.{ℕ, suc, _+_, _<_}
 use native.Mathlib.Numerals.{add-one}
 use native.Mathlib.Omega.{arith}
 use lib.Dec.{eqb, ltb}
-use lib.ListN.{length, getD}
+use lib.ListN.{length}
 use borrow.Author.Tests.{eqb-true, eq-eqb, ltb-true, lt-ltb}
 use Rattle.lists.specs.Lists.{bit, range, all, any, count, ascending}
 use Rattle.lists.specs.Refusal.{refuse}
-use Rattle.lists.proofs.Tests.{iff, and-l, and-r, and-both, not-false, not-true, clash}
+use Rattle.lists.proofs.Tests.{iff, and-l, and-r, and-both, not-false, clash}
 use Rattle.lists.proofs.All.{all-append, all-at, all-range}
 use Rattle.lists.proofs.Any.{any-map, any-under}
 use Rattle.lists.proofs.Count.{all-map, count-snoc}
@@ -18,12 +18,12 @@ use Rattle.lists.proofs.Maps.{ascending-image}
 use Rattle.lists.proofs.Faults.{refuse-zero}
 use Rattle.packed.specs.Field.{fillSet}
 use Rattle.packed.proofs.Laws.{field-lt}
-use Rattle.graph.specs.Graph.{Edge, Graph, forward, near, entry, key}
+use Rattle.graph.specs.Graph.{Edge, Graph, forward, entry, key}
 use Rattle.graph.specs.File.{badEdge}
-use Rattle.graph.specs.Store.{graphIn, storeFault}
-use Rattle.graph.proofs.WellFormed.{WellFormed, Fitting, fitting, fitting-edge}
+use Rattle.graph.specs.Store.{graphIn}
+use Rattle.graph.proofs.WellFormed.{WellFormed, fitting, fitting-edge}
 use Rattle.graph.proofs.Keys.{entry-fits}
-use Rattle.store.specs.inner.Side.{Within, listOn, Lookup, verticesIn, sideIn}
+use Rattle.store.specs.inner.Side.{Within, listOn, Lookup}
 use Rattle.store.specs.inner.Portion.{listOf}
 use Rattle.store.proofs.Listed.{list-any}
 use Rattle.store.proofs.Accepted.{graph-formed, store-vertices, lookup-within, lookup-list, lookup-ascends}

@@ -1,6 +1,6 @@
 -- The fields of a change, and the fault of a change file part by part. Assumes nothing.
-use mathlib.Core.Path.{_≡_, refl, sym, _∙_, ap, ap₂}
-use mathlib.Core.Bool.{Bool, true, false, not, _&&_, _||_}
+use mathlib.Core.Path.{_≡_, refl, sym, _∙_, ap}
+use mathlib.Core.Bool.{Bool, true, false, not, _&&_}
 use mathlib.Core.List.{List, [], _∷_}
 use Prim.Native.Nat.{ℕ, zero, suc, _+_, _*_, _/_, _%_, _≤_, _<_}
 use native.Mathlib.Numerals.{add-one}
@@ -10,13 +10,12 @@ use lib.ListN.{length}
 use borrow.Author.Tests.{ltb-true, lt-ltb, le-ltb, ltb-false, eq-eqb, ne-eqb, eqb-true}
 use Rattle.lists.specs.Lists.{bit, range, all}
 use Rattle.lists.specs.Refusal.{refuse}
-use Rattle.lists.proofs.Tests.{iff, and-l, and-r, and-both, not-true, not-false, clash}
+use Rattle.lists.proofs.Tests.{iff, and-l, and-both, not-true, not-false, clash}
 use Rattle.lists.proofs.All.{all-append, all-at}
 use Rattle.lists.proofs.Faults.{refuse-zero}
 use Rattle.packed.specs.Field.{fieldAt, fillSet}
 use Rattle.packed.proofs.Laws.{field-add, field-lt}
 use Rattle.graph.specs.Graph.{forward, entry, key}
-use Rattle.graph.specs.File.{badEdge}
 use Rattle.changes.specs.File.{changeCount, changeStart, changeSize, addsIn, changedEdge, changeAscends, changeFits, changeFault}
 use Rattle.changes.specs.inner.Reading.{Sized, changeLengthFault}
 

@@ -1,25 +1,24 @@
 -- Applying a change file and then its reverse gives the old words back. Assumes nothing.
 use mathlib.Core.Path.{_≡_, refl, sym, _∙_, ap, ap₂}
-use mathlib.Core.Bool.{Bool, true, not}
-use mathlib.Core.List.{List, [], _∷_, _++_, map, map-map, map-id}
-use Prim.Native.Nat.{ℕ, _≤_, _<_}
+use mathlib.Core.Bool.{true, not}
+use mathlib.Core.List.{List, _++_, map, map-map, map-id}
+use Prim.Native.Nat.{ℕ}
 use native.Mathlib.Omega.{arith}
 use lib.Dec.{ltb}
 use lib.ListN.{length, take, drop}
 use lib.Seq.{take-at}
 use borrow.Author.Tests.{le-ltb}
 use Rattle.lists.specs.Lists.{all}
-use Rattle.lists.specs.Refusal.{refuse, first}
+use Rattle.lists.specs.Refusal.{refuse}
 use Rattle.lists.proofs.Faults.{first-cons, first-one, zero-refuse}
 use Rattle.lists.proofs.Maps.{map-under}
 use Rattle.graph.specs.Graph.{Edge, Graph, forward, key}
-use Rattle.graph.specs.Store.{graphIn, storeFault, storeOf, storeSize}
-use Rattle.graph.proofs.WellFormed.{WellFormed, fitting}
+use Rattle.graph.specs.Store.{graphIn, storeOf, storeSize}
+use Rattle.graph.proofs.WellFormed.{fitting}
 use Rattle.graph.proofs.Parts.{length-store}
 use Rattle.graph.proofs.Loads.{store-formed}
-use Rattle.store.proofs.Accepted.{graph-formed}
 use Rattle.changes.specs.File.{Change, changesOf, changeFault}
-use Rattle.changes.specs.Edit.{changeKey, keyEdge, keysOf, editedKeys, applies, applyChanges, editFault, editedGraph, applyFault, changedStore}
+use Rattle.changes.specs.Edit.{keyEdge, keysOf, editedKeys, applies, applyChanges, editFault, editedGraph, applyFault, changedStore}
 use Rattle.changes.specs.Claims.{LoadsEdited, turned, Reverses}
 use Rattle.changes.proofs.EditedGraph.{Applied, edge-key, key-edge, applied-keys}
 use Rattle.changes.proofs.Filled.{applied}

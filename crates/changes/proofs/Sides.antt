@@ -1,31 +1,27 @@
 -- The sides of the old store, of the changes and of the edited graph, by keys. Assumes nothing.
-use mathlib.Core.Path.{_≡_, refl, sym, _∙_, ap, ap₂}
-use mathlib.Core.Bool.{Bool, true}
+use mathlib.Core.Path.{_≡_, sym, _∙_, ap}
+use mathlib.Core.Bool.{true}
 use mathlib.Core.List.{List, [], _++_, map, map-map}
-use Prim.Native.Nat.{ℕ, suc, _+_, _*_, _%_, _<_}
-use native.Mathlib.Omega.{arith}
+use Prim.Native.Nat.{ℕ, suc, _*_, _%_}
 use lib.Dec.{ltb}
-use lib.ListN.{length, drop}
-use borrow.Author.Tests.{ltb-true, lt-ltb}
-use Rattle.lists.specs.Lists.{range, all, count, ascending, sort}
-use Rattle.lists.proofs.All.{all-follows, all-range}
+use borrow.Author.Tests.{lt-ltb}
+use Rattle.lists.specs.Lists.{range, all, count}
+use Rattle.lists.proofs.All.{all-follows}
 use Rattle.lists.proofs.Count.{all-map}
 use Rattle.lists.proofs.Sort.{all-sort}
 use Rattle.lists.proofs.Maps.{image-ext}
-use Rattle.graph.specs.Graph.{Edge, Graph, Direction, forward, backward, near, key}
-use Rattle.graph.specs.Store.{offsets, entries, graphIn, storeFault, storeSize}
+use Rattle.graph.specs.Graph.{Edge, Graph, Direction, near, key}
+use Rattle.graph.specs.Store.{offsets, entries, graphIn, storeFault}
 use Rattle.graph.proofs.WellFormed.{WellFormed, fitting}
-use Rattle.graph.proofs.Keys.{near-in, entry-fits, key-below, sortedKeys, keys-ascend, keys-below, forward-keys}
+use Rattle.graph.proofs.Keys.{near-in, key-below, sortedKeys, keys-ascend, keys-below}
 use Rattle.graph.proofs.VertexLists.{vertex-list}
-use Rattle.store.specs.inner.Side.{listOn, sideIn}
+use Rattle.store.specs.inner.Side.{sideIn}
 use Rattle.store.proofs.Listed.{store-list}
 use Rattle.store.proofs.Accepted.{graph-formed, list-within, list-on}
-use Rattle.changes.specs.File.{Change, changeCount, changedEdge, changesOf, changeFault}
-use Rattle.changes.specs.Edit.{changeKey, keysOf}
+use Rattle.changes.specs.File.{changeCount, changesOf}
+use Rattle.changes.specs.Edit.{changeKey}
 use Rattle.changes.specs.inner.Merge.{entriesOf, sideKeys, sideWords, keysOn, SideOf}
-use Rattle.changes.proofs.Reading.{target-low}
-use Rattle.changes.proofs.Nexts.{label-low}
-use Rattle.changes.proofs.Present.{changeAt, changes-ascend, change-source}
+use Rattle.changes.proofs.Present.{changeAt}
 use Rattle.changes.proofs.Parting.{keys-on}
 
 -- The keys of n vertices' edges are below those of vertex n.
@@ -61,18 +57,7 @@ side-words g w d =
     (image-ext (λ (v : ℕ). count (λ (k : ℕ). ltb k (v * 16777216)) (sortedKeys d g)) (λ (v : ℕ). count (λ (e : Edge). ltb (near d e) v) (g .edges)) (suc (g .vertices))
     (λ v l. sym (keys-below g w d v)))
 
--- ---- the changes of the forward side
-
+-- The changes of the forward side, as the file has them.
 pub forward-changes : (s : List ℕ) → sideKeys s [] ≡ map changeKey (changesOf s)
 unfolding sideKeys changesOf
 forward-changes s = sym (map-map changeKey (changeAt s) (range (changeCount s)))
-
-module _ (n : ℕ) (s : List ℕ) (e : changeFault n s ≡ 0) where
-  pub forward-ascend : ascending (sideKeys s []) ≡ true
-  forward-ascend = ap ascending (forward-changes s) ∙ changes-ascend n s e
-
-  pub forward-bounded : all (λ (k : ℕ). ltb k (n * 16777216)) (sideKeys s []) ≡ true
-  unfolding sideKeys
-  forward-bounded =
-      all-map (λ (k : ℕ). ltb k (n * 16777216)) (λ (i : ℕ). key forward (changedEdge s i)) (range (changeCount s))
-      ∙ all-range _ (changeCount s) (λ i l. lt-ltb (key forward (changedEdge s i)) (n * 16777216) (omega (arith, change-source n s e i l, target-low s i, label-low s i)))

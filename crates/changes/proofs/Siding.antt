@@ -1,20 +1,20 @@
 -- The loop that writes a side: the offsets and the entries of one vertex after another. Assumes nothing.
 use mathlib.Core.Path.{_≡_, refl, sym, _∙_, ap, ap₂}
-use mathlib.Core.Bool.{Bool, true}
+use mathlib.Core.Bool.{true}
 use mathlib.Core.List.{List, [], _∷_, _++_, map, append-assoc, append-nil}
-use Prim.Native.Nat.{ℕ, zero, suc, _+_, _-_, _*_, _%_, _≤_, _<_}
+use Prim.Native.Nat.{ℕ, suc, _+_, _-_, _*_, _%_, _≤_, _<_}
 use native.Mathlib.Nat.{le-of-eq}
 use native.Mathlib.Numerals.{add-one}
 use native.Mathlib.Omega.{arith}
 use lib.Dec.{ltb}
-use lib.ListN.{length, getD, set, take, drop, length-append, length-set, length-drop, length-map, drop-of-length-le, take-append-drop}
+use lib.ListN.{length, set, take, drop, length-append, length-set, length-drop, length-map, drop-of-length-le, take-append-drop}
 use lib.Seq.{take-at, drop-at, drop-drop, take-suc-set, drop-set-lt, length-take-le, take-append-le, drop-append-le, take-take}
-use Rattle.lists.specs.Lists.{range, all, count, ascending}
+use Rattle.lists.specs.Lists.{range, all, ascending}
 use Rattle.lists.proofs.Count.{count-le}
 use Rattle.lists.proofs.Maps.{image-suc}
 use Rattle.lists.proofs.Parts.{rest-at, drop-take}
 use Rattle.changes.specs.inner.Toggle.{toggled}
-use Rattle.changes.specs.inner.Merge.{entriesOf, sideWords, SideOf, Fitting, Mergeable}
+use Rattle.changes.specs.inner.Merge.{entriesOf, sideWords, Fitting, Mergeable}
 use Rattle.changes.proofs.Toggles.{ascending-toggled, all-toggled}
 use Rattle.changes.proofs.Merging.{entries-ascend}
 use Rattle.changes.proofs.Parting.{below, entriesBelow, below-none, length-below, entries-next, below-next, ahead-of, entries-from, entries-all, entries-toggled}

@@ -1,7 +1,7 @@
 // Refusal 28: adding a present edge or taking an absent one.
 ghost use mathlib.Core.Path.{_≡_};
 ghost use mathlib.Core.Bool.{true};
-ghost use Prim.Native.Nat.{_+_, _≤_, _<_};
+ghost use Prim.Native.Nat.{_≤_, _<_};
 ghost use lib.Dec.{eqb};
 ghost use Rattle.lists.specs.Lists.{bit, any, ascending, range, count};
 ghost use Rattle.search.specs.inner.Search.{firstFrom};

@@ -5,12 +5,12 @@ ghost use lib.ListN.{length};
 ghost use Rattle.lists.specs.Lists.{range, count};
 ghost use Rattle.graph.specs.Graph.{maxGraphEdges};
 ghost use Rattle.changes.specs.File.{changeCount, addsIn};
-ghost use Rattle.changes.specs.Edit.{applyFault, applyAnswer, changedStore, editedGraph};
+ghost use Rattle.changes.specs.Edit.{applyFault, applyAnswer, changedStore};
 ghost use Rattle.changes.specs.inner.Reading.{Sized};
-ghost use Rattle.changes.specs.inner.Fill.{Accepted};
 use graph::Graph;
 use load::Loaded;
 
+mod backward;
 mod edits;
 mod file;
 mod fill;

@@ -27,7 +27,7 @@ fn files(example: &Path) -> Files {
 #[test]
 fn examples_round_trip() {
     let examples = examples();
-    assert!(examples.len() >= 7);
+    assert!(examples.len() >= 8);
     for example in examples {
         let packed = parse(&text(&example)).unwrap().hang;
         assert_eq!(packed.to_files(), files(&example), "{example:?}");

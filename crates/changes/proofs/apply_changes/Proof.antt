@@ -1,5 +1,4 @@
 -- `changes::apply_changes` meets its contract. Assumes nothing.
-use native.Mathlib.Omega.{arith}
 use borrow.Author.Needs.{needs}
 use mathlib.Core.Path.{sym, _∙_}
 use Rattle.store.proofs.Accepted.{store-counts}

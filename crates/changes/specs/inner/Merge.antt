@@ -5,8 +5,8 @@ use mathlib.Core.List.{List, _++_, map, flatMap}
 use Prim.Native.Nat.{ℕ, suc, _+_, _*_, _/_, _%_, _≤_, _<_}
 use lib.Dec.{eqb, ltb}
 use lib.ListN.{length, getD, drop}
-use Rattle.lists.specs.Lists.{range, all, keep, count, ascending}
-use Rattle.graph.specs.Graph.{entryEnd, forward, backward, key}
+use Rattle.lists.specs.Lists.{range, all, keep, count, ascending, sort}
+use Rattle.graph.specs.Graph.{entryEnd, Direction, forward, key}
 use Rattle.store.specs.inner.Side.{listOn, Within}
 use Rattle.changes.specs.File.{changeCount, changedEdge}
 use Rattle.changes.specs.inner.Reading.{Sized}
@@ -20,18 +20,18 @@ keyAt v k = not (ltb k (v * entryEnd)) && ltb k (suc v * entryEnd)
 unfoldable pub entriesOf : ℕ → List ℕ → List ℕ
 entriesOf v ks = map (λ (k : ℕ). k % entryEnd) (keep (keyAt v) ks)
 
--- The keys of the changes for a side: for the forward one in the file's order, for the backward one in a given order.
-unfoldable pub sideKeys : List ℕ → List ℕ → List ℕ
-sideKeys s order =
-    cond (eqb (length order) 0)
-    (map (λ (i : ℕ). key forward (changedEdge s i)) (range (changeCount s)))
-    (map (λ (i : ℕ). key backward (changedEdge s i)) order)
+-- The keys of the changes in a direction, ascending.
+unfoldable pub changeKeys : Direction → List ℕ → List ℕ
+changeKeys d s = sort (map (λ (i : ℕ). key d (changedEdge s i)) (range (changeCount s)))
 
--- A file with no order, or with the numbers of all its changes in some order.
-pub record Ordered (s order : List ℕ) : Type 0 where
+-- Those that a side is merged with: the ones given, or where none are given the forward ones, which the file has in order.
+unfoldable pub sideKeys : List ℕ → List ℕ → List ℕ
+sideKeys s keys = cond (eqb (length keys) 0) (map (λ (i : ℕ). key forward (changedEdge s i)) (range (changeCount s))) keys
+
+-- A file with no keys, or with as many as it has changes.
+pub record Keyed (s keys : List ℕ) : Type 0 where
   pub sized : Sized s
-  pub full : (length order ≡ 0 → ⊥) → length order ≡ changeCount s
-  pub numbers : (i : ℕ) → i < length order → getD order i 0 < changeCount s
+  pub full : (length keys ≡ 0 → ⊥) → length keys ≡ changeCount s
 
 -- The entry in a key of an edge at v, and one above all entries in any other.
 abbrev pub entryAt : ℕ → ℕ → ℕ

@@ -1,6 +1,4 @@
 -- `changes::file::forward_entry` meets its contract. Assumes nothing.
-use mathlib.Core.Path.{_∙_}
-use native.Mathlib.Omega.{arith}
 use borrow.Author.Needs.{needs}
 use Rattle.packed.proofs.Laws.{field-lt}
 use Rattle.changes.proofs.Reading.{entry-field}

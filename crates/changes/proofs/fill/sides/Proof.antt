@@ -1,26 +1,40 @@
 -- `changes::fill::sides` meets its contract. Assumes nothing.
 use native.Mathlib.Omega.{arith}
 use borrow.Author.Needs.{needs}
-use Rattle.changes.proofs.Filled.{one-mirrorable, one-long, sides-made}
+use Rattle.changes.proofs.Present.{file-sized}
+use Rattle.changes.proofs.Filled.{square-fits, few-changes}
 use Rattle.changes.proofs.fill.sides.Statement.{statement}
 use Rattle.changes.proofs.fill.sides.Tie as tie
 
-forward-side-requires : tie.Need-forward-side-requires
-forward-side-requires c κs = (c .before .before .before .before .pre .0, omega (arith, c .before .before .before .before .pre .1, c .before .before .before .before .pre .2))
+mul-if1 : tie.Need-mul-if1
+mul-if1 c = omega (arith, square-fits (c .before .before .before .args .k) (omega (arith, c .before .before .before .pre .0 .changes, file-sized _ _ (c .before .before .before .pre .0 .file) .few)))
 
-mirror-requires : tie.Need-mirror-requires
-mirror-requires c κs = one-mirrorable (c .before .before .before .before .before .before .before .before .pre .0) (c .before .before .before .before .before .before .before .before .args .side .now) (c .before .before .before .before .before .before .before .before .pre .1) (c .before .before .before .before .before .before .before .before .pre .2) (c .before .before .before .forward-side .ensures)
+merged-sides-requires : tie.Need-merged-sides-requires
+merged-sides-requires c κs = (c .before .before .before .before .before .pre .0, c .before .before .before .before .before .pre .1, few-changes (c .before .before .before .before .before .args .k) (c .before .if1 .taken) (omega (arith, c .before .before .before .before .before .pre .0 .few, c .before .before .before .before .before .pre .1)), c .before .before .before .before .before .pre .2)
 
-forward-side-requires-2 : tie.Need-forward-side-requires-2
-forward-side-requires-2 c κs = (c .before .before .before .before .before .before .before .before .before .before .before .before .pre .0, omega (arith, c .before .before .before .before .before .before .before .before .before .before .before .before .pre .1, c .before .before .before .before .before .before .before .before .before .before .before .before .pre .2, c .before .before .before .mirror .ensures .long, one-long (c .before .before .before .before .before .before .before .before .before .before .before .before .pre .0) (c .before .before .before .before .before .before .before .before .before .before .before .before .args .side .now) (c .before .before .before .before .before .before .before .before .before .before .before .before .pre .1) (c .before .before .before .before .before .before .before .before .before .before .before .before .pre .2) (c .before .before .before .before .before .before .before .forward-side .ensures)))
+mirrored-sides-requires : tie.Need-mirrored-sides-requires
+mirrored-sides-requires c κs = search needs
 
 same-length : tie.Need-same-length
 same-length c = search needs
 
 returns : tie.Need-returns
-returns c = sides-made (c .before .before .before .before .before .before .before .before .before .before .before .before .before .before .before .pre .0) (c .before .before .before .before .before .before .before .before .before .before .before .before .before .before .before .args .side .now) (c .before .before .before .before .before .before .before .before .before .before .before .before .before .before .before .pre .1) (c .before .before .before .before .before .before .before .before .before .before .before .before .before .before .before .pre .2) (c .before .before .before .before .before .before .before .before .before .before .forward-side .ensures) (c .before .before .before .before .before .before .mirror .ensures) (c .before .before .forward-side2 .ensures)
+returns c = search needs
+
+same-length-2 : tie.Need-same-length-2
+same-length-2 c = search needs
+
+returns-2 : tie.Need-returns-2
+returns-2 c = search needs
 
 pub sides-spec : {M : Type 1} → statement M
 sides-spec =
     tie.close
-    (tie.spec forward-side-requires mirror-requires forward-side-requires-2 same-length returns)
+    (tie.spec
+    mul-if1
+    merged-sides-requires
+    mirrored-sides-requires
+    same-length
+    returns
+    same-length-2
+    returns-2)

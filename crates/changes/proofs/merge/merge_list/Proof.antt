@@ -12,14 +12,14 @@ use Rattle.changes.proofs.merge.merge_list.Statement.{statement}
 use Rattle.changes.proofs.merge.merge_list.Tie as tie
 
 abbrev Inv-loop : tie.InvT-loop
-Inv-loop list file order k v from out₀ at₀ i₀ len₀ e₀ out at i len e = Merging list (sideKeys file order) out₀ v from out at i len e
+Inv-loop list file keys k v from out₀ at₀ i₀ len₀ e₀ out at i len e = Merging list (sideKeys file keys) out₀ v from out at i len e
 
 abbrev μ-loop : tie.MeasureT-loop
-μ-loop list file order k v from out₀ at₀ i₀ len₀ e₀ out at i len e = (length list - i) + (k - at)
+μ-loop list file keys k v from out₀ at₀ i₀ len₀ e₀ out at i len e = (length list - i) + (k - at)
 
 -- What the function was given.
 size : (a : tie.At-loop Inv-loop μ-loop) → let g = a .before .before .before .before .before .before in
-    length (sideKeys (g .args .file .now) (g .args .order .now)) ≡ g .args .k
+    length (sideKeys (g .args .file .now) (g .args .keys .now)) ≡ g .args .k
 size a = let g = a .before .before .before .before .before .before in length-side _ _ (g .pre .0 .0) ∙ sym (g .pre .0 .1)
 
 next-requires : tie.Need-next-requires Inv-loop μ-loop

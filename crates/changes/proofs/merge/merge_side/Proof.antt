@@ -10,10 +10,10 @@ use Rattle.changes.proofs.merge.merge_side.Statement.{statement}
 use Rattle.changes.proofs.merge.merge_side.Tie as tie
 
 abbrev Inv-loop : tie.InvT-loop
-Inv-loop old n at file order k side₀ next₀ len₀ v₀ side next len v = Siding (keysOn old n at) (sideKeys file order) n side₀ v side next len
+Inv-loop old n at file keys k side₀ next₀ len₀ v₀ side next len v = Siding (keysOn old n at) (sideKeys file keys) n side₀ v side next len
 
 abbrev μ-loop : tie.MeasureT-loop
-μ-loop old n at file order k side₀ next₀ len₀ v₀ side next len v = n - v
+μ-loop old n at file keys k side₀ next₀ len₀ v₀ side next len v = n - v
 
 slice-write-side : tie.Need-slice-write-side Inv-loop μ-loop
 slice-write-side c = omega (arith, c .before .before .before .before .pre .1 .1 .fits)
