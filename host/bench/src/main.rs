@@ -39,7 +39,7 @@ fn options() -> Options {
     let number = |name: &str, default: f64| value(name).map_or(default, |text| text.parse().expect("a number"));
     let has = |name: &str| words.iter().any(|word| word == name);
     let quick = has("--quick");
-    let limit = number("--database-seconds", if quick { 2.0 } else { 10.0 });
+    let limit = number("--database-seconds", if quick { 2.0 } else { 5.0 });
     let part = |text: String| {
         let (part, parts) = text.split_once('/').expect("a part of parts");
         (part.parse().expect("a number"), parts.parse().expect("a number"))
