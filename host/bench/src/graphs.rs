@@ -4,9 +4,57 @@ use std::collections::BTreeSet;
 /// An edge: source, label, target.
 pub type Edge = (u16, u8, u16);
 
+/// What a graph is like, whatever its size.
+#[derive(Clone, Copy, PartialEq)]
+pub enum Shape {
+    /// Its power, its labels, and how many edges it has for each vertex.
+    PowerLaw(f64, usize, f64),
+    /// Power law, and with each edge the one back.
+    Slings,
+    Rig,
+}
+
+impl Shape {
+    pub fn name(self) -> String {
+        match self {
+            Shape::PowerLaw(power, labels, degree) => {
+                let kinds = if labels == 1 { "one label".into() } else { format!("{labels} labels") };
+                format!("power law {power}, {degree:.0} edges a vertex, {kinds}")
+            }
+            Shape::Slings => "slings, every edge in both directions".into(),
+            Shape::Rig => format!("rig, {} labels", rig_label::CABLES.end - 1),
+        }
+    }
+
+    /// A graph of about so many edges.
+    pub fn graph(self, m: usize) -> Graph {
+        let (labels, edges) = match self {
+            Shape::PowerLaw(power, labels, degree) => {
+                let n = ((m as f64 / degree).round() as usize).min(65_535);
+                (vec![0; n], power_law(n, m, labels, power))
+            }
+            Shape::Slings => {
+                let n = (m / 8).min(65_535);
+                let edges: BTreeSet<Edge> =
+                    power_law(n, m / 2, 1, 1.3).into_iter().flat_map(|(s, l, t)| [(s, l, t), (t, l, s)]).collect();
+                (vec![0; n], edges.into_iter().collect())
+            }
+            Shape::Rig => rig(m / 2),
+        };
+        let mut r = Random(0xDA75 ^ labels.len() as u64);
+        let days = labels.iter().map(|_| 1 + r.below(DAYS) as u16).collect();
+        let name = format!("{}: {} vertices, {} edges", self.name(), labels.len(), edges.len());
+        Graph { name, labels, days, edges }
+    }
+}
+
+/// Inspection days are 1 to this, each as likely.
+pub const DAYS: usize = 5_000;
+
 pub struct Graph {
     pub name: String,
     pub labels: Vec<u16>,
+    pub days: Vec<u16>,
     pub edges: Vec<Edge>,
 }
 
@@ -16,16 +64,47 @@ impl Graph {
         let mut file = Bits::default();
         file.put(self.labels.len() as u64, 16);
         file.put(self.edges.len() as u64, 20);
-        for &label in &self.labels {
+        for (&label, &day) in self.labels.iter().zip(&self.days) {
             file.put(label.into(), 16);
-            file.put(0, 16);
+            file.put(day.into(), 16);
         }
-        for &(source, label, target) in &self.edges {
-            file.put(source.into(), 16);
-            file.put(label.into(), 8);
-            file.put(target.into(), 16);
+        for &edge in &self.edges {
+            file.put_edge(edge);
         }
         file.bytes()
+    }
+
+    /// So many changes, every other one an addition: their file, and the edited graph.
+    pub fn changed(&self, count: usize) -> (Vec<u8>, Graph) {
+        let mut r = Random(0xC4A6);
+        let mut edges: BTreeSet<Edge> = self.edges.iter().copied().collect();
+        let mut changes = std::collections::BTreeMap::new();
+        while changes.len() < count {
+            let (source, label, target) = self.edges[r.below(self.edges.len())];
+            let adds = changes.len() % 2 == 0;
+            let target = if adds { r.below(self.labels.len()) as u16 } else { target };
+            let edge = (source, label, target);
+            if edges.contains(&edge) != adds && !changes.contains_key(&edge) {
+                changes.insert(edge, adds);
+            }
+        }
+        let mut file = Bits::default();
+        file.put(changes.len() as u64, 20);
+        for (&edge, &adds) in &changes {
+            file.put(adds.into(), 1);
+            file.put_edge(edge);
+            match adds {
+                true => edges.insert(edge),
+                false => edges.remove(&edge),
+            };
+        }
+        let edited = Graph {
+            name: self.name.clone(),
+            labels: self.labels.clone(),
+            days: self.days.clone(),
+            edges: edges.into_iter().collect(),
+        };
+        (file.bytes(), edited)
     }
 }
 
@@ -46,6 +125,12 @@ impl Bits {
             self.bytes.push((self.rest >> self.bits) as u8);
             self.rest &= (1 << self.bits) - 1;
         }
+    }
+
+    fn put_edge(&mut self, (source, label, target): Edge) {
+        self.put(source.into(), 16);
+        self.put(label.into(), 8);
+        self.put(target.into(), 16);
     }
 
     pub fn bytes(mut self) -> Vec<u8> {
@@ -77,7 +162,7 @@ impl Random {
 
 /// Both ends of an edge are vertex n × u^power for a uniform u, renumbered at random: the larger the power, the larger the hubs.
 /// Of several labels, the first is on three edges in four.
-pub fn power_law(n: usize, m: usize, labels: usize, power: f64) -> Graph {
+fn power_law(n: usize, m: usize, labels: usize, power: f64) -> Vec<Edge> {
     let mut r = Random(0x9E37_79B9_7F4A_7C15 ^ (n + m + labels) as u64);
     let mut number: Vec<u16> = (0..n).map(|v| v as u16).collect();
     (1..n).rev().for_each(|i| number.swap(i, r.below(i + 1)));
@@ -88,12 +173,7 @@ pub fn power_law(n: usize, m: usize, labels: usize, power: f64) -> Graph {
         let label = if labels > 1 && r.below(4) == 0 { 2 + r.below(labels - 1) } else { 1 };
         edges.insert((source, label as u8, target));
     }
-    let kinds = if labels == 1 { "one label".into() } else { format!("{labels} labels") };
-    Graph {
-        name: format!("power law {power}, {n} vertices, {m} edges, {kinds}"),
-        labels: vec![0; n],
-        edges: edges.into_iter().collect(),
-    }
+    edges.into_iter().collect()
 }
 
 /// The edge labels of a rig. Further labels, up to `CABLES`, are cables between places near each other.
@@ -108,7 +188,7 @@ pub mod rig_label {
 }
 
 /// Trusses of braced bays, with motors on chains below every third bottom joint, and cables: low degrees and many labels.
-pub fn rig() -> Graph {
+fn rig(vertices: usize) -> (Vec<u16>, Vec<Edge>) {
     use rig_label::*;
     let mut r = Random(0x51E6);
     let mut labels: Vec<u16> = Vec::new();
@@ -118,7 +198,7 @@ pub fn rig() -> Graph {
         (labels.len() - 1) as u16
     };
     let mut last = 0;
-    while last < 65_000 {
+    while usize::from(last) < vertices {
         let mut before: Option<(u16, u16)> = None;
         for bay in 0..8 + r.below(16) {
             let (top, bottom) = (vertex(1), vertex(2));
@@ -148,10 +228,5 @@ pub fn rig() -> Graph {
         let to = (from + 1 + r.below(60)).min(n - 1);
         edges.insert((from as u16, (CABLES.start + r.below(CABLES.len())) as u8, to as u16));
     }
-    let m = edges.len();
-    Graph {
-        name: format!("rig, {n} vertices, {m} edges, {} labels", CABLES.end - 1),
-        labels,
-        edges: edges.into_iter().collect(),
-    }
+    (labels, edges.into_iter().collect())
 }

@@ -1,4 +1,4 @@
-//! Time: of the process's own processor time, medians over rounds in which the versions take turns.
+//! Time: of the process's own processor time, over rounds in which the versions take turns. And instructions, which repeat.
 
 #[repr(C)]
 struct Timespec {
@@ -27,29 +27,61 @@ pub fn seconds(mut work: impl FnMut()) -> f64 {
     now() - start
 }
 
-fn median(mut times: Vec<f64>) -> f64 {
-    times.sort_by(f64::total_cmp);
-    times[times.len() / 2]
+/// The numbers in the middle, a quarter from below and a quarter from above.
+#[derive(Clone, Copy)]
+pub struct Spread {
+    pub low: f64,
+    pub median: f64,
+    pub high: f64,
+}
+
+impl Spread {
+    fn of(mut numbers: Vec<f64>) -> Spread {
+        numbers.sort_by(f64::total_cmp);
+        let last = numbers.len() - 1;
+        Spread { low: numbers[last / 4], median: numbers[last / 2], high: numbers[last - last / 4] }
+    }
+}
+
+/// The measured times of N versions.
+#[derive(Clone, Copy)]
+pub struct Times<const N: usize> {
+    /// Seconds, the medians over the rounds.
+    pub seconds: [f64; N],
+    /// The last version's time over each version's, round by round.
+    pub ratios: [Spread; N],
 }
 
 /// How often work is repeated.
 #[derive(Clone, Copy)]
 pub struct Rounds {
     pub least: usize,
-    /// Short work is repeated until a version has run for so many seconds, or 99 times.
+    /// Rounds go on until they took so many seconds, or there were `most`.
     pub seconds: f64,
+    pub most: usize,
 }
 
-/// The median time of each version. They run once unmeasured, and then in turn, each round beginning with another.
-pub fn race<const N: usize>(rounds: Rounds, mut versions: [&mut dyn FnMut(); N]) -> [f64; N] {
-    let once = versions.iter_mut().map(seconds).fold(0.0, f64::max);
-    let count = rounds.least.max(((rounds.seconds / once.max(1e-6)) as usize).min(99));
-    let mut times = vec![Vec::new(); N];
-    for round in 0..count {
+/// The times of versions of one work. They run once unmeasured, and then in turn, each round beginning with another: a minute in which
+/// the machine is slow is slow for all.
+pub fn race<const N: usize>(rounds: Rounds, mut versions: [&mut dyn FnMut(); N]) -> Times<N> {
+    let once: f64 = versions.iter_mut().map(seconds).sum();
+    let count = rounds.least.max(((rounds.seconds / once.max(1e-6)) as usize).min(rounds.most));
+    let mut times = vec![[0.0; N]; count];
+    for (round, times) in times.iter_mut().enumerate() {
         for k in 0..N {
             let i = (round + k) % N;
-            times[i].push(seconds(&mut versions[i]));
+            times[i] = seconds(&mut versions[i]);
         }
     }
-    std::array::from_fn(|i| median(std::mem::take(&mut times[i])))
+    Times {
+        seconds: std::array::from_fn(|i| Spread::of(times.iter().map(|t| t[i]).collect()).median),
+        ratios: std::array::from_fn(|i| Spread::of(times.iter().map(|t| t[N - 1] / t[i]).collect())),
+    }
+}
+
+/// Runs work once. A callgrind that collects in this function alone counts the work's instructions.
+#[inline(never)]
+pub fn counted(work: &mut dyn FnMut()) {
+    work();
+    std::hint::black_box(());
 }

@@ -1,35 +1,68 @@
 //! The measurements as Markdown.
-use crate::sqlite::Counted;
+use crate::counts::Counts;
+use crate::databases::{Counted, PROGRAMS};
+use crate::drawn::Drawn;
+use crate::measure::Spread;
+use crate::rows::Row;
 use std::fmt::Write;
 use std::process::Command;
 
 /// The bars: at most 1.0 times the first plain version, and 1.1 times the second.
-pub const BARS: [f64; 2] = [1.0, 1.1];
+const BARS: [f64; 2] = [1.0, 1.1];
 
-pub struct Row {
-    pub work: String,
-    pub rows: Option<usize>,
-    /// Seconds of the two plain versions and the engine.
-    pub times: [f64; 3],
-    pub sqlite: Option<Counted>,
-}
-
-impl Row {
-    pub fn ratios(&self) -> [f64; 2] {
-        let [merge, same, engine] = self.times;
-        [engine / merge, engine / same]
-    }
-
-    /// Whether a ratio, as it is printed, is above its bar.
-    pub fn misses(&self) -> [bool; 2] {
-        let [one, two] = self.ratios().map(|ratio| (ratio * 100.0).round() / 100.0);
-        [one > BARS[0], two > BARS[1]]
-    }
-}
+const NAMES: [&str; 2] = ["merge", "same"];
 
 pub struct Table {
+    pub shape: String,
     pub graph: String,
     pub rows: Vec<Row>,
+    pub drawn: Vec<Drawn>,
+}
+
+/// Whether a ratio, as it is printed, is above a bar.
+fn above(ratio: f64, bar: f64) -> bool {
+    (ratio * 100.0).round() > (bar * 100.0).round()
+}
+
+/// What a row says of one plain version.
+struct Verdict {
+    /// The engine's time over the plain version's, round by round.
+    time: Spread,
+    /// The same of instructions, where they were counted.
+    instructions: Option<f64>,
+    slow: bool,
+    /// Whether the instructions are above the bar; as the time where they were not counted.
+    long: bool,
+}
+
+impl Verdict {
+    fn of(row: &Row, counts: Option<&[u64; 3]>, i: usize) -> Verdict {
+        let time = row.times.expect("a timed row").ratios[i];
+        let instructions = counts.map(|counts| counts[2] as f64 / counts[i] as f64);
+        let slow = above(time.median, BARS[i]);
+        Verdict { time, instructions, slow, long: instructions.map_or(slow, |ratio| above(ratio, BARS[i])) }
+    }
+
+    fn misses(&self) -> bool {
+        self.slow && self.long
+    }
+
+    fn time(&self) -> String {
+        let Spread { low, median, high } = self.time;
+        marked(&format!("{median:.2}"), self.misses()) + &format!(" ({low:.2}–{high:.2})")
+    }
+
+    fn instructions(&self) -> String {
+        self.instructions.map_or(String::new(), |ratio| marked(&format!("{ratio:.2}"), self.misses()))
+    }
+}
+
+fn marked(text: &str, misses: bool) -> String {
+    if misses {
+        format!("**{text}**")
+    } else {
+        text.into()
+    }
 }
 
 fn milliseconds(seconds: f64) -> String {
@@ -40,15 +73,7 @@ fn milliseconds(seconds: f64) -> String {
     }
 }
 
-fn marked(ratio: f64, misses: bool) -> String {
-    if misses {
-        format!("**{ratio:.2}**")
-    } else {
-        format!("{ratio:.2}")
-    }
-}
-
-fn thousands(number: usize) -> String {
+fn thousands(number: u64) -> String {
     let digits = number.to_string();
     let mut text = String::new();
     for (i, digit) in digits.chars().enumerate() {
@@ -60,27 +85,43 @@ fn thousands(number: usize) -> String {
     text
 }
 
+fn count(rows: Option<usize>) -> String {
+    rows.map_or(String::new(), |rows| thousands(rows as u64))
+}
+
+/// A database's time, and how many times as long as the engine it took.
+fn database(counted: &Option<Counted>, engine: f64) -> String {
+    match counted {
+        None => String::new(),
+        Some(Counted::In(_, seconds)) => format!("{} ({:.1}×)", milliseconds(*seconds), seconds / engine),
+        Some(Counted::Not(limit)) => format!("> {} (> {:.0}×)", milliseconds(*limit), limit / engine),
+    }
+}
+
 impl Table {
-    pub fn markdown(&self) -> String {
+    fn verdicts(&self, row: &Row, counts: &Counts) -> [Verdict; 2] {
+        let counts = counts.get(&(self.shape.clone(), row.work.clone()));
+        [0, 1].map(|i| Verdict::of(row, counts, i))
+    }
+
+    pub fn markdown(&self, counts: &Counts) -> String {
         let mut text = format!("### {}\n\n", self.graph);
-        text += "| work | rows | merge ms | same ms | engine ms | engine / merge | engine / same | SQLite ms | SQLite / engine |\n";
-        text += "|---|---:|---:|---:|---:|---:|---:|---:|---:|\n";
+        text += "| work | rows | merge ms | same ms | engine ms | time: engine / merge | engine / same | instructions: / merge | / same | SQLite ms | PostgreSQL ms |\n";
+        text += "|---|---:|---:|---:|---:|---:|---:|---:|---:|---:|---:|\n";
         for row in &self.rows {
-            let [merge, same, engine] = row.times.map(milliseconds);
-            let ([one, two], [miss_one, miss_two]) = (row.ratios(), row.misses());
-            let (sqlite, times) = match &row.sqlite {
-                None => (String::new(), String::new()),
-                Some(Counted::In(_, seconds)) => (milliseconds(*seconds), format!("{:.1}", seconds / row.times[2])),
-                Some(Counted::Not(limit)) => {
-                    (format!("> {}", milliseconds(*limit)), format!("> {:.0}", limit / row.times[2]))
-                }
-            };
-            let (one, two) = (marked(one, miss_one), marked(two, miss_two));
-            let count = row.rows.map_or(String::new(), thousands);
+            let times = row.times.expect("a timed row");
+            let [merge, same, engine] = times.seconds.map(milliseconds);
+            let [one, two] = self.verdicts(row, counts);
+            let [sqlite, postgres] = [0, 1].map(|i| database(&row.counted[i], times.seconds[2]));
             writeln!(
                 text,
-                "| {} | {count} | {merge} | {same} | {engine} | {one} | {two} | {sqlite} | {times} |",
-                row.work
+                "| {} | {} | {merge} | {same} | {engine} | {} | {} | {} | {} | {sqlite} | {postgres} |",
+                row.work,
+                count(row.rows),
+                one.time(),
+                two.time(),
+                one.instructions(),
+                two.instructions(),
             )
             .unwrap();
         }
@@ -88,46 +129,77 @@ impl Table {
     }
 }
 
-/// The rows of all tables that miss a bar.
-pub fn misses(tables: &[Table]) -> String {
-    let mut text = String::new();
+/// The rows that are above a bar: those of which time and instructions both say so, and those of which one does.
+pub fn misses(tables: &[Table], counts: &Counts) -> String {
+    let mut lists = [String::new(), String::new(), String::new()];
     for table in tables {
-        for row in table.rows.iter().filter(|row| row.misses() != [false, false]) {
-            let [one, two] = row.ratios();
-            let mut missed = Vec::new();
-            if row.misses()[0] {
-                missed.push(format!("{one:.2} of merge"));
+        for row in &table.rows {
+            for (verdict, name) in table.verdicts(row, counts).iter().zip(NAMES) {
+                let list = match (verdict.slow, verdict.long) {
+                    (true, true) => 0,
+                    (true, false) => 1,
+                    (false, true) => 2,
+                    _ => continue,
+                };
+                let instructions = verdict.instructions.map_or("not counted".into(), |ratio| format!("{ratio:.2}"));
+                let Spread { low, median, high } = verdict.time;
+                let figures = format!("time {median:.2} ({low:.2}–{high:.2}), instructions {instructions}");
+                writeln!(lists[list], "- {}: {}: of {name}: {figures}", table.graph, row.work).unwrap();
             }
-            if row.misses()[1] {
-                missed.push(format!("{two:.2} of same"));
-            }
-            writeln!(text, "- {}: {}: {}", table.graph, row.work, missed.join(", ")).unwrap();
         }
     }
-    if text.is_empty() {
-        text.push_str("None.\n");
-    }
-    text
+    let [both, slow, long] = lists.map(|list| if list.is_empty() { "None.\n".into() } else { list });
+    format!("{both}\nAbove it by time alone:\n\n{slow}\nAbove it by instructions alone:\n\n{long}")
 }
 
 /// How the engine's time grows: a line for each work, a column for each size.
-pub fn growth(sizes: &[usize], tables: &[Table]) -> String {
+pub fn growth(sizes: &[usize], tables: &[Table], counts: &Counts) -> String {
     let mut text = String::from("| work |");
-    sizes.iter().for_each(|m| write!(text, " {} |", thousands(*m)).unwrap());
-    text += "\n|---|";
+    sizes.iter().for_each(|&m| write!(text, " {} |", thousands(m as u64)).unwrap());
+    text += " instructions |\n|---|";
     sizes.iter().for_each(|_| text += "---:|");
-    text.push('\n');
+    text += "---:|\n";
     let Some(first) = tables.first() else { return text };
     for i in 0..first.rows.len() {
         write!(text, "| {} |", first.rows[i].work).unwrap();
         for table in tables {
             let row = &table.rows[i];
-            let ([one, two], [miss_one, miss_two]) = (row.ratios(), row.misses());
-            let count = row.rows.map_or(String::new(), |rows| format!("{} rows, ", thousands(rows)));
-            let time = milliseconds(row.times[2]);
-            write!(text, " {count}{time} ms ({}, {}) |", marked(one, miss_one), marked(two, miss_two)).unwrap();
+            let [one, two] = table.verdicts(row, counts);
+            let rows = row.rows.map_or(String::new(), |_| format!("{} rows, ", count(row.rows)));
+            let time = milliseconds(row.times.expect("a timed row").seconds[2]);
+            write!(text, " {rows}{time} ms ({}; {}) |", one.time(), two.time()).unwrap();
         }
-        text.push('\n');
+        let [one, two] = first.verdicts(&first.rows[i], counts);
+        writeln!(text, " {}; {} |", one.instructions(), two.instructions()).unwrap();
+    }
+    text
+}
+
+/// The drawn plans beside the best and the worst ordering.
+pub fn drawn(tables: &[Table]) -> String {
+    let mut text =
+        String::from("| graph | pattern | rows | orderings | drawn ms | best ms | worst ms | drawn / best |\n");
+    text += "|---|---|---:|---:|---:|---:|---:|---:|\n";
+    for table in tables {
+        for row in &table.drawn {
+            let plan = |i: usize| {
+                let (order, cost) = &row.orders[i];
+                format!("{}: {order}, cost {}", milliseconds(row.times.seconds[i]), thousands(*cost))
+            };
+            let Spread { low, median, high } = row.times.ratios[0];
+            writeln!(
+                text,
+                "| {} | {} | {} | {} | {} | {} | {} | {median:.2} ({low:.2}–{high:.2}) |",
+                table.shape,
+                row.pattern,
+                thousands(row.rows as u64),
+                row.orderings,
+                plan(2),
+                plan(0),
+                plan(1),
+            )
+            .unwrap();
+        }
     }
     text
 }
@@ -138,7 +210,7 @@ fn first_line(program: &str, arguments: &[&str]) -> Option<String> {
 }
 
 /// The machine and the programs that built what was measured.
-pub fn machine(rounds: usize) -> String {
+pub fn machine(rounds: usize, minutes: f64) -> String {
     let read = |file: &str| std::fs::read_to_string(file).unwrap_or_default();
     let value = |text: &str, name: &str| {
         let line = text.lines().find(|line| line.starts_with(name)).unwrap_or_default();
@@ -148,23 +220,23 @@ pub fn machine(rounds: usize) -> String {
     let cores = cpu.lines().filter(|line| line.starts_with("processor")).count();
     let gigabytes = value(&memory, "MemTotal").trim_end_matches(" kB").parse::<f64>().unwrap_or(0.0) / 1e6;
     let load = read("/proc/loadavg");
-    let mut text = String::new();
-    writeln!(
-        text,
-        "- Processor: {}, {cores} cores, cache {}; {gigabytes:.0} GB of memory",
-        value(&cpu, "model name"),
-        value(&cpu, "cache size")
-    )
-    .unwrap();
-    writeln!(text, "- System: Linux {}", first_line("uname", &["-r"]).unwrap_or_default()).unwrap();
-    writeln!(text, "- Rust: {}", first_line("rustc", &["--version"]).unwrap_or_default()).unwrap();
-    writeln!(text, "- SQLite: {}", crate::sqlite::version().unwrap_or("not measured".into())).unwrap();
-    writeln!(text, "- Rounds: {rounds} or more a row").unwrap();
-    writeln!(
-        text,
-        "- Load average as the measurement ended: {}",
-        load.split_whitespace().take(3).collect::<Vec<_>>().join(" ")
-    )
-    .unwrap();
-    text
+    let load = load.split_whitespace().take(3).collect::<Vec<_>>().join(" ");
+    let missing = || "not there, its column is empty".to_owned();
+    let [sqlite, postgres] = PROGRAMS.map(|program| program.version().unwrap_or_else(missing));
+    [
+        format!(
+            "- Processor: {}, {cores} cores, cache {}; {gigabytes:.0} GB of memory",
+            value(&cpu, "model name"),
+            value(&cpu, "cache size")
+        ),
+        format!("- System: Linux {}", first_line("uname", &["-r"]).unwrap_or_default()),
+        format!("- Rust: {}", first_line("rustc", &["--version"]).unwrap_or_default()),
+        format!("- Instructions: {}", crate::counts::version().unwrap_or_else(missing)),
+        format!("- SQLite: {sqlite}"),
+        format!("- PostgreSQL: {postgres}"),
+        format!("- Rounds: {rounds} or more a row"),
+        format!("- Minutes in all: {minutes:.0}; load average at the end: {load}"),
+        String::new(),
+    ]
+    .join("\n")
 }
