@@ -16,7 +16,7 @@ ghost use Rattle.store.specs.inner.Order.{fallsFrom, startFalls, faultsO
 ghost use Rattle.store.specs.inner.Check.{unless, countsFit, labelsFit, daysFit, member, offsetsFit, offsetsOn, entryFits, listFits, sideFits, sideGood, GoodSide, listMirrored, sideMirrored, Counted};
 
 // Where there are no more than so many entries a vertex, lists are short.
-const SHORT: usize = 4;
+const SHORT: usize = 2;
 
 // 19 where a word is above a limit, else 0.
 fn words_fault(part: &[u32], limit: u32) -> u32

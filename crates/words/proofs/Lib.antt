@@ -1,2 +1,3 @@
 -- Laws of copying word by word.
 pub mod Copying
+pub mod Zeros
