@@ -4,7 +4,7 @@ use super::graph::{accumulate, find, Graph};
 use crate::files::store_words;
 
 /// Where there are no more than so many entries a vertex, lists are short.
-const SHORT: usize = 4;
+const SHORT: usize = 2;
 
 const BLOCK: usize = 1024;
 
