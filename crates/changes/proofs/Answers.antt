@@ -12,11 +12,11 @@ use Rattle.lists.proofs.Count.{count-map}
 use Rattle.lists.proofs.Maps.{length-image}
 use Rattle.lists.proofs.Faults.{first-head, first-tail, first-cons, first-some, refuse-zero}
 use Rattle.graph.specs.Store.{graphIn, storeFault, storeOf, storeSize, usedWords}
-use Rattle.store.specs.inner.Side.{verticesIn, edgesIn}
-use Rattle.store.proofs.Accepted.{graph-formed, store-vertices, store-edges}
-use Rattle.changes.specs.File.{Change, changeCount, addsIn, changesOf, changeFault}
+use Rattle.adjacency.specs.inner.Side.{verticesIn, edgesIn}
+use Rattle.adjacency.proofs.Accepted.{graph-formed, store-vertices, store-edges}
+use Rattle.change_file.specs.File.{Change, changeCount, addsIn, changesOf, changeFault}
 use Rattle.changes.specs.Edit.{editFault, editedGraph, applyChanges, applyFault, applyAnswer, changedStore}
-use Rattle.changes.specs.inner.Reading.{Sized}
+use Rattle.change_file.specs.inner.Reading.{Sized}
 use Rattle.changes.specs.inner.Fill.{Accepted}
 use Rattle.changes.proofs.EditedGraph.{applied-size}
 use Rattle.changes.proofs.Present.{changeAt, file-sized}

@@ -13,10 +13,10 @@ use Rattle.lists.proofs.All.{all-true}
 use Rattle.lists.proofs.Any.{any-fails}
 use Rattle.lists.proofs.Count.{count-append, count-map, count-keep, count-sum, count-const, count-under, count-passes, count-all, all-map}
 use Rattle.lists.proofs.Sort.{count-sort, ascending-once, ascending-same, sort-ascends, ascends-above, ascends-tail}
-use Rattle.changes.specs.File.{Change}
+use Rattle.change_file.specs.File.{Change}
 use Rattle.changes.specs.Edit.{changeKey, taken, editedKeys, applies}
-use Rattle.changes.specs.inner.Toggle.{toggle, toggled}
-use Rattle.changes.proofs.Toggles.{toggle-absent, toggle-present, ascending-toggled}
+use Rattle.merge.specs.inner.Toggle.{toggle, toggled}
+use Rattle.merge.proofs.Toggles.{toggle-absent, toggle-present, ascending-toggled}
 
 -- ---- what a list counts of one number
 

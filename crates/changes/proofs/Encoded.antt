@@ -22,7 +22,7 @@ use Rattle.packed.proofs.RoundTrip.{length-bitsOf, length-records, number-put, 
 use Rattle.graph.specs.Graph.{forward, key}
 use Rattle.graph.specs.File.{badEdge}
 use Rattle.graph.proofs.WellFormed.{Fitting, fitting, fitting-edge}
-use Rattle.changes.specs.File.{Change, changeCount, changeStart, changeSize, addsIn, changedEdge, changesOf, changeAscends, changeFits, changeFault}
+use Rattle.change_file.specs.File.{Change, changeCount, changeStart, changeSize, addsIn, changedEdge, changesOf, changeAscends, changeFits, changeFault}
 use Rattle.changes.specs.Edit.{changeKey}
 use Rattle.changes.proofs.Present.{changeAt}
 

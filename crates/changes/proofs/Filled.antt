@@ -21,14 +21,14 @@ use Rattle.graph.proofs.WellFormed.{WellFormed, formed-well}
 use Rattle.graph.proofs.Keys.{sortedKeys}
 use Rattle.graph.proofs.Parts.{length-offsets, length-entries, store-shape}
 use Rattle.load.proofs.Written.{tail-back}
-use Rattle.store.specs.inner.Side.{sideIn, verticesIn, edgesIn}
-use Rattle.store.proofs.Accepted.{graph-formed, store-vertices, store-edges, store-length}
+use Rattle.adjacency.specs.inner.Side.{sideIn, verticesIn, edgesIn}
+use Rattle.adjacency.proofs.Accepted.{graph-formed, store-vertices, store-edges, store-length}
 use Rattle.mirror.specs.inner.Mirror.{ForwardSide, Mirrorable, Mirrored}
-use Rattle.changes.specs.File.{changeCount, changedEdge, changesOf, changeFault}
+use Rattle.change_file.specs.File.{changeCount, changedEdge, changesOf, changeFault}
 use Rattle.changes.specs.Edit.{changeKey, applyChanges, editFault, editedGraph}
-use Rattle.changes.specs.inner.Toggle.{toggled}
-use Rattle.changes.specs.inner.Merge.{changeKeys, sideKeys, Keyed, sideWords, keysOn, SideOf, Fitting}
-use Rattle.changes.specs.inner.Fill.{Accepted, Distinct, wordsOn, sidesOf, HeadKept}
+use Rattle.merge.specs.inner.Toggle.{toggled}
+use Rattle.merge.specs.inner.Merge.{changeKeys, sideKeys, Keyed, sideWords, keysOn, SideOf, Fitting, Distinct}
+use Rattle.changes.specs.inner.Fill.{Accepted, wordsOn, sidesOf, HeadKept}
 use Rattle.changes.proofs.EditedGraph.{Applied, applied-formed}
 use Rattle.changes.proofs.Present.{file-sized, changes-fit, changes-ascend}
 use Rattle.changes.proofs.Directions.{keys-listed, change-keys, back-once, applied-ascend, applied-bounded, applied-sorted}

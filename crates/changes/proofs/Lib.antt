@@ -1,16 +1,8 @@
--- Laws of changes: their file, and the edited graph.
-pub mod Reading
-pub mod Toggles
+-- Laws of the changes: the edited graph, and the store that is written of it.
 pub mod Flips
 pub mod OtherKeys
-pub mod Inserting
 pub mod Edited
 pub mod EditedGraph
-pub mod Merging
-pub mod Nexts
-pub mod Parting
-pub mod Copying
-pub mod Siding
 pub mod Present
 pub mod Directions
 pub mod Sides

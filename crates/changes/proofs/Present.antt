@@ -23,13 +23,13 @@ use Rattle.graph.specs.File.{badEdge}
 use Rattle.graph.specs.Store.{graphIn}
 use Rattle.graph.proofs.WellFormed.{WellFormed, fitting, fitting-edge}
 use Rattle.graph.proofs.Keys.{entry-fits}
-use Rattle.store.specs.inner.Side.{Within, listOn, Lookup}
-use Rattle.store.specs.inner.Portion.{listOf}
-use Rattle.store.proofs.Listed.{list-any}
-use Rattle.store.proofs.Accepted.{graph-formed, store-vertices, lookup-within, lookup-list, lookup-ascends}
-use Rattle.changes.specs.File.{Change, changeCount, changeStart, addsIn, changedEdge, changesOf, changeAscends, changeFits, changeFault, changeSize}
+use Rattle.adjacency.specs.inner.Side.{Within, listOn, Lookup}
+use Rattle.adjacency.specs.inner.Portion.{listOf}
+use Rattle.adjacency.proofs.Listed.{list-any}
+use Rattle.adjacency.proofs.Accepted.{graph-formed, store-vertices, lookup-within, lookup-list, lookup-ascends}
+use Rattle.change_file.specs.File.{Change, changeCount, changeStart, addsIn, changedEdge, changesOf, changeAscends, changeFits, changeFault, changeSize}
 use Rattle.changes.specs.Edit.{changeKey, keysOf, applies, editFault}
-use Rattle.changes.specs.inner.Reading.{Sized}
+use Rattle.change_file.specs.inner.Reading.{Sized}
 use Rattle.changes.specs.inner.Edits.{Editable}
 
 -- An edge that fits is present where its entry stands in its source's list.

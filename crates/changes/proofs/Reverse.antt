@@ -18,7 +18,7 @@ use Rattle.graph.specs.Store.{graphIn, storeOf, storeSize}
 use Rattle.graph.proofs.WellFormed.{fitting}
 use Rattle.graph.proofs.Parts.{length-store}
 use Rattle.graph.proofs.Loads.{store-formed}
-use Rattle.changes.specs.File.{Change, changesOf, changeFault}
+use Rattle.change_file.specs.File.{Change, changesOf, changeFault}
 use Rattle.changes.specs.Edit.{keyEdge, keysOf, editedKeys, applies, applyChanges, editFault, editedGraph, applyFault, changedStore}
 use Rattle.changes.specs.Claims.{LoadsEdited, turned, ReverseOf, Reverses}
 use Rattle.changes.proofs.EditedGraph.{Applied, edge-key, key-edge, applied-keys}

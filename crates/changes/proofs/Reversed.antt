@@ -11,11 +11,11 @@ use Rattle.lists.proofs.All.{all-mem, mem-all}
 use Rattle.lists.proofs.Any.{any-count}
 use Rattle.lists.proofs.Count.{count-map, mem-count, all-map}
 use Rattle.lists.proofs.Sort.{ascending-once, ascending-same}
-use Rattle.changes.specs.File.{Change}
+use Rattle.change_file.specs.File.{Change}
 use Rattle.changes.specs.Edit.{changeKey, editedKeys, applies}
 use Rattle.changes.specs.Claims.{turned}
-use Rattle.changes.specs.inner.Toggle.{toggled}
-use Rattle.changes.proofs.Toggles.{ascending-toggled}
+use Rattle.merge.specs.inner.Toggle.{toggled}
+use Rattle.merge.proofs.Toggles.{ascending-toggled}
 use Rattle.changes.proofs.Flips.{turnedBy, toggled-count}
 use Rattle.changes.proofs.Edited.{edited-toggled}
 

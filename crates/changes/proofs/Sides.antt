@@ -17,14 +17,14 @@ use Rattle.graph.specs.Store.{offsets, entries, graphIn, storeFault}
 use Rattle.graph.proofs.WellFormed.{WellFormed, fitting}
 use Rattle.graph.proofs.Keys.{near-in, key-below, sortedKeys, keys-ascend, keys-below}
 use Rattle.graph.proofs.VertexLists.{vertex-list}
-use Rattle.store.specs.inner.Side.{verticesIn, edgesIn, sideIn}
-use Rattle.store.proofs.Listed.{store-list}
-use Rattle.store.proofs.Accepted.{side-ends, graph-formed, store-vertices, store-edges, store-length, offset-in, list-within, list-on}
-use Rattle.changes.specs.File.{changeCount, changesOf}
+use Rattle.adjacency.specs.inner.Side.{verticesIn, edgesIn, sideIn}
+use Rattle.adjacency.proofs.Listed.{store-list}
+use Rattle.adjacency.proofs.Accepted.{side-ends, graph-formed, store-vertices, store-edges, store-length, offset-in, list-within, list-on}
+use Rattle.change_file.specs.File.{changeCount, changesOf}
 use Rattle.changes.specs.Edit.{changeKey}
-use Rattle.changes.specs.inner.Merge.{entriesOf, sideKeys, sideWords, keysOn, SideOf}
+use Rattle.merge.specs.inner.Merge.{entriesOf, sideKeys, sideWords, keysOn, SideOf}
 use Rattle.changes.proofs.Present.{changeAt}
-use Rattle.changes.proofs.Parting.{keys-on}
+use Rattle.merge.proofs.Parting.{keys-on}
 
 -- The keys of n vertices' edges are below those of vertex n.
 pub keys-bounded : (g : Graph) → WellFormed g → (d : Direction) → all (λ (k : ℕ). ltb k (g .vertices * 16777216)) (sortedKeys d g) ≡ true

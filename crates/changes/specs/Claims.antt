@@ -9,7 +9,7 @@ use Rattle.lists.specs.Lists.{all}
 use Rattle.graph.specs.File.{graphOf}
 use Rattle.lists.specs.Refusal.{refuse}
 use Rattle.graph.specs.Store.{storeSize, loadFault, loadStore, graphIn, storeFault}
-use Rattle.changes.specs.File.{Change, changesOf, changeFault}
+use Rattle.change_file.specs.File.{Change, changesOf, changeFault}
 use Rattle.changes.specs.Edit.{editedGraph, applyFault, changedStore}
 
 -- 'As by loading the edited graph': there is a file, of bytes, of the edited graph; Load accepts it and leaves the same words. So the new store

@@ -9,7 +9,7 @@ use Rattle.lists.specs.Refusal.{refuse, first, answered}
 use Rattle.graph.specs.Graph.{Edge, Graph, maxGraphEdges, entryEnd, forward, key}
 use Rattle.graph.specs.Store.{storeOf, storeSize, entryEdge, graphIn, storeFault}
 use Rattle.load.specs.declared.Loaded.{Loaded}
-use Rattle.changes.specs.File.{Change, changesOf, changeFault}
+use Rattle.change_file.specs.File.{Change, changesOf, changeFault}
 
 -- The key of a change is that of its edge, and a key tells its edge.
 abbrev pub changeKey : Change → ℕ

@@ -6,14 +6,13 @@ ghost use lib.Dec.{eqb};
 ghost use Rattle.lists.specs.Lists.{bit, any, ascending, range, count};
 ghost use Rattle.search.specs.inner.Search.{firstFrom};
 ghost use Rattle.graph.specs.Store.{graphIn};
-ghost use Rattle.changes.specs.File.{changeCount, addsIn, changesOf};
+ghost use Rattle.change_file.specs.File.{changeCount, addsIn, changesOf};
 ghost use Rattle.changes.specs.Edit.{editFault};
-ghost use Rattle.changes.specs.inner.Reading.{Sized};
+ghost use Rattle.change_file.specs.inner.Reading.{Sized};
 ghost use Rattle.changes.specs.inner.Edits.{Editable};
-use crate::file;
+use adjacency::neighbours;
 use search::lower_bound;
 use search::walk_up;
-use store::neighbours;
 
 // The first index of an ascending list whose word is not below x: word by word from the guess on, where the word before it is below x, else by
 // a search. Changes of one vertex ascend, so that the place of one is a guess for the next, and all of them together walk a list once. Any guess
@@ -56,10 +55,10 @@ pub fn edits_fault(old: &[u32], n: usize, at: usize, file: &[u8], k: usize) -> u
     let mut guess = 0;
     let mut i = 0;
     while i < k {
-        let list = neighbours(old, n, at, file::source(file, i) as usize);
-        let e = file::forward_entry(file, i);
+        let list = neighbours(old, n, at, change_file::source(file, i) as usize);
+        let e = change_file::forward_entry(file, i);
         guess = place(list, e, guess);
-        if stands(list, e, guess) == file::adds(file, i) {
+        if stands(list, e, guess) == change_file::adds(file, i) {
             return 28;
         }
         i += 1;
@@ -75,7 +74,7 @@ pub fn additions(file: &[u8], k: usize) -> usize
     let mut sum = 0;
     let mut i = 0;
     while i < k {
-        sum += file::adds(file, i) as usize;
+        sum += change_file::adds(file, i) as usize;
         i += 1;
     }
     sum

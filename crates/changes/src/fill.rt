@@ -8,9 +8,8 @@ ghost use Rattle.graph.specs.Graph.{forward, backward};
 ghost use Rattle.graph.specs.Store.{storeOf, usedWords};
 ghost use Rattle.changes.specs.Edit.{editedGraph};
 ghost use Rattle.changes.specs.inner.Fill.{Accepted, manyChanges, wordsOn, sidesOf, HeadKept};
-use crate::backward;
-use crate::merge;
 use graph::Graph;
+use merge::backward;
 
 // Few changes are fewer than this, since the square of their number is at most that of the edges.
 const MANY: usize = 1024;

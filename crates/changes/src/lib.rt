@@ -4,17 +4,14 @@ ghost use Prim.Native.Nat.{suc, _+_, _*_, _≤_, _<_};
 ghost use lib.ListN.{length};
 ghost use Rattle.lists.specs.Lists.{range, count};
 ghost use Rattle.graph.specs.Graph.{maxGraphEdges};
-ghost use Rattle.changes.specs.File.{changeCount, addsIn};
+ghost use Rattle.change_file.specs.File.{changeCount, addsIn};
 ghost use Rattle.changes.specs.Edit.{applyFault, applyAnswer, changedStore};
-ghost use Rattle.changes.specs.inner.Reading.{Sized};
+ghost use Rattle.change_file.specs.inner.Reading.{Sized};
 use graph::Graph;
 use load::Loaded;
 
-mod backward;
 mod edits;
-mod file;
 mod fill;
-mod merge;
 
 // How many edges there are after k changes to m: one more for each addition, one less for each other change.
 fn edited_edges(file: &[u8], k: usize, m: usize) -> usize
@@ -35,11 +32,11 @@ fn apply_fault(old: &[u32], file: &[u8], room: usize) -> u32
     }
     let g = Graph::of_store(old);
     let n = g.vertices;
-    let misread = file::change_fault(file, n);
+    let misread = change_file::change_fault(file, n);
     if misread != 0 {
         return misread;
     }
-    let k = file::change_count(file);
+    let k = change_file::change_count(file);
     let misfit = edits::edits_fault(old, n, 2 + 2 * n, file, k);
     if misfit != 0 {
         return misfit;
@@ -70,7 +67,7 @@ pub fn apply_changes(old: &[u32], file: &[u8], store: &mut [u32]) -> Loaded
     }
     let g = Graph::of_store(old);
     let n = g.vertices;
-    let k = file::change_count(file);
+    let k = change_file::change_count(file);
     let m = edited_edges(file, k, g.edges);
     fill::fill(old, n, file, k, m, store);
     Loaded {

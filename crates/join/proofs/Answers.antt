@@ -24,11 +24,11 @@ use Rattle.operators.specs.Join.{joined, partners, joinRows, heads}
 use Rattle.operators.specs.inner.Written.{Written}
 use Rattle.rows.proofs.Widths.{width-past, width-zero, width-suc, row-is}
 use Rattle.rows.proofs.Laid.{rows-wide, length-flatten}
-use Rattle.join.specs.inner.Place.{buildRows}
-use Rattle.join.specs.inner.Joined.{probeWords, Filled}
+use Rattle.probe.specs.inner.Place.{buildRows}
+use Rattle.probe.specs.inner.Joined.{probeWords, Filled}
 use Rattle.join.specs.inner.Operands.{Operands, Members, IsLayout, columnsFor, Permitted}
-use Rattle.join.specs.declared.Layout.{Layout}
-use Rattle.join.specs.declared.Reached.{Reached}
+use Rattle.probe.specs.declared.Layout.{Layout}
+use Rattle.probe.specs.declared.Reached.{Reached}
 use Rattle.join.proofs.Meaning.{both-width, words-are}
 
 -- Operands over n vertices, as a pile of a query has them.

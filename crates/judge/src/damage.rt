@@ -21,7 +21,7 @@ fn follows(refused: u32, refusal: u32, first: u32, last: u32) -> bool {
 fn refusal_of(store: &Store, files: &Files, with: Lent, tally: &mut Tally) -> u32 {
     let mut list = [runs::MARK; runs::LIST_WORDS];
     let query = part(files, 0, with.query);
-    let q = query::read_query(query);
+    let q = query_file::read_query(query);
     let c = plan::check_plan(query, part(files, PLAN, with.plan));
     let a = runs::run(store, files, with, &mut list, tally);
     let read = follows(0, q.refusal, 6, 11) | follows(0, q.refusal, 25, 26);

@@ -48,7 +48,7 @@ fn judge_refused(n: usize, m: usize, tally: &mut Tally) {
     bits::put_field(&mut file, 0, 4, n);
     bits::put_field(&mut file, 4, 5, m);
     let bytes = bits::bytes_for(13 + n % 16 * 48 + m % 32 * 14);
-    let refusal = query::read_query(part(&file, 0, bytes)).refusal;
+    let refusal = query_file::read_query(part(&file, 0, bytes)).refusal;
     tally::judge(tally, tally::WORKED, refusal == 8);
 }
 

@@ -10,9 +10,9 @@ use Rattle.graph.specs.File.{graphOf, graphFault, vertexCount, edgeCount}
 use Rattle.graph.specs.Store.{storeOf, usedWords, storeSize, loadFault, loadStore}
 use Rattle.graph.proofs.FileGraph.{accepted}
 use Rattle.graph.proofs.Loads.{load-store}
-use Rattle.load.specs.inner.Reading.{Whole}
+use Rattle.graph_file.specs.inner.Reading.{Whole}
 use Rattle.load.specs.Answer.{loadAnswer}
-use Rattle.load.proofs.Refused.{length-edges, store-words, file-whole}
+use Rattle.graph_file.proofs.Refused.{length-edges, store-words, file-whole}
 
 -- ---- refused
 

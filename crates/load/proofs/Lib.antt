@@ -1,6 +1,4 @@
--- Laws of Load: the file's faults, and the stable counting pass that fills the store.
-pub mod Entries
-pub mod Refused
+-- Laws of Load: the stable counting pass that fills the store.
 pub mod Grouped
 pub mod Sorted
 pub mod Sides

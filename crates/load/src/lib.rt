@@ -4,7 +4,6 @@ ghost use lib.ListN.{length};
 ghost use Rattle.graph.specs.Store.{loadStore};
 ghost use Rattle.load.specs.Answer.{loadAnswer};
 
-mod file;
 mod fill;
 
 pub use fill::accumulate;
@@ -22,7 +21,7 @@ pub fn load(file: &[u8], store: &mut [u32]) -> Loaded
     ensures answer { λ r. ⌜ r ≡ loadAnswer (now (file .entry)) (length (now (store .entry))) ⌝ }
     ensures words { λ _. ⌜ now (store .exit) ≡ loadStore (now (file .entry)) (now (store .entry)) ⌝ }
 {
-    let refusal = file::load_fault(file, store.len());
+    let refusal = graph_file::load_fault(file, store.len());
     if refusal != 0 {
         return Loaded {
             refusal,
@@ -30,8 +29,8 @@ pub fn load(file: &[u8], store: &mut [u32]) -> Loaded
             edges: 0,
         };
     }
-    let n = file::vertex_count(file);
-    let m = file::edge_count(file);
+    let n = graph_file::vertex_count(file);
+    let m = graph_file::edge_count(file);
     fill::fill(file, n, m, store);
     Loaded {
         refusal: 0,

@@ -18,10 +18,10 @@ use Rattle.packed.specs.Field.{bitsIn}
 use Rattle.packed.proofs.Laws.{field-lt}
 use Rattle.query.specs.Query.{Query}
 use Rattle.query.specs.File.{queryOf, queryFault}
-use Rattle.query.specs.inner.Parts.{Readable}
+use Rattle.query_file.specs.inner.Parts.{Readable}
 use Rattle.query.specs.Answer.{structOf}
 use Rattle.query.specs.inner.Struct.{Held}
-use Rattle.query.proofs.FileLaws.{query-readable as readable, query-held as holds}
+use Rattle.query_file.proofs.FileLaws.{query-readable as readable, query-held as holds}
 use Rattle.plan.specs.Plan.{scan, extend, join}
 use Rattle.plan.specs.Check.{rulesFault}
 use Rattle.plan.specs.File.{operatorCount, kindAt, operandAt, operatorAt, place, operatorsOf, operatorFault, planFault, checkFault}

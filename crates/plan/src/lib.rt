@@ -10,7 +10,6 @@ ghost use Rattle.plan.specs.Plan.{maxOperators};
 mod file;
 mod rules;
 
-use query::Query;
 pub use rules::ends;
 
 pub enum Operator {
@@ -85,11 +84,11 @@ impl Plan {
 pub fn check_fault(query: &[u8], plan: &[u8]) -> u32
     ensures { λ r. ⌜ r ≡ checkFault (now (query .entry)) (now (plan .entry)) ⌝ }
 {
-    let fault = query::query_fault(query);
+    let fault = query_file::query_fault(query);
     if fault != 0 {
         return fault;
     }
-    let q = Query::of_file(query);
+    let q = query_file::query_of(query);
     let fault = file::file_fault(plan, q.vertices, q.edges);
     if fault != 0 {
         return fault;

@@ -21,8 +21,8 @@ use Rattle.query.specs.File.{queryOf, queryFault}
 use Rattle.query.specs.Answer.{structOf}
 use Rattle.query.specs.inner.Struct.{queryIn}
 use Rattle.query.specs.declared.Query.{Query as QueryStruct}
-use Rattle.query.proofs.Structs.{at-least-vertices, at-most-vertices, at-least-edges, at-most-edges, file-struct, file-labels}
-use Rattle.query.proofs.FileLaws.{query-readable, query-held, query-connected}
+use Rattle.query_file.proofs.Structs.{at-least-vertices, at-most-vertices, at-least-edges, at-most-edges, file-struct, file-labels}
+use Rattle.query_file.proofs.FileLaws.{query-readable, query-held, query-connected}
 use Rattle.plan.specs.Plan.{Operator, ends}
 use Rattle.plan.specs.Check.{ruleFault, covered, rulesFault}
 use Rattle.plan.specs.File.{operatorsOf, checkFault}
@@ -35,11 +35,11 @@ use Rattle.execution.specs.Run.{runAnswer, runList, runRecords}
 use Rattle.execution.specs.Complete.{CompleteRun}
 use Rattle.execution.proofs.Accepted.{edges-proper}
 use Rattle.execution.proofs.Demand.{spelled, run-lists-every-match}
-use Rattle.planner.specs.Order.{scanEdge, scanned, extendsFrom, extendOrder, drawnOperators}
+use Rattle.ordering.specs.Order.{scanEdge, scanned, extendsFrom, extendOrder, drawnOperators}
 use Rattle.planner.specs.Draw.{planBits, drawnPlan, drawFault, drawAnswer, drawBytes}
-use Rattle.planner.specs.inner.Parts.{Drawable}
+use Rattle.ordering.specs.inner.Counts.{Drawable}
 use Rattle.planner.specs.Complete.{planIn, PassesCheck, DrawnListsEveryMatch}
-use Rattle.planner.proofs.Choosing.{choices}
+use Rattle.ordering.proofs.Choosing.{choices}
 use Rattle.planner.proofs.Ordering.{count-ends, length-extends, extends-below, extends-pass}
 use Rattle.planner.proofs.Packing.{length-file, operators-read, file-sound}
 

@@ -13,7 +13,7 @@ use Rattle.execution.specs.declared.Record.{Record}
 use Rattle.execution.specs.Run.{runAnswer, runList, runRecords}
 use Rattle.execution.specs.Complete.{CompleteRun}
 use Rattle.planner.specs.declared.DrawAnswer.{DrawAnswer}
-use Rattle.planner.specs.Order.{drawnOperators}
+use Rattle.ordering.specs.Order.{drawnOperators}
 use Rattle.planner.specs.Draw.{drawFault, drawAnswer, drawBytes}
 
 -- The plan that was drawn: as many of the lent bytes as the answer says.

@@ -1,6 +1,5 @@
 // Drawing a plan: from a store and a query to a packed plan of one scan and n - 2 extends. `specs/` says which plan it is and when it is
 // refused, `proofs/` that it passes the plan check.
-mod order;
 mod pack;
 
 use query::Query;
@@ -10,7 +9,8 @@ ghost use Rattle.graph.specs.Store.{graphIn, storeFault};
 ghost use Rattle.query.specs.inner.Struct.{queryIn};
 ghost use Rattle.planner.specs.Draw.{drawAnswer, drawBytes};
 ghost use Rattle.planner.specs.Complete.{PassesCheck};
-ghost use Rattle.planner.specs.inner.Parts.{Drawable, Drawn};
+ghost use Rattle.ordering.specs.inner.Counts.{Drawable};
+ghost use Rattle.planner.specs.inner.Parts.{Drawn};
 
 // What drawing a plan answers: a refusal with 0, or 0 with the plan's length in bytes.
 pub struct DrawAnswer {
@@ -31,7 +31,7 @@ fn draw_accepted(store: &[u32], q: Query, plan: &mut [u8]) -> DrawAnswer
     requires { ⌜ Drawable q × (storeFault (now store) ≡ 0) ⌝ }
     ensures { λ r. ⌜ Drawn (graphIn (now (store .entry))) (queryIn q) (now (plan .entry)) (now (plan .exit)) r ⌝ }
 {
-    let edge = order::scan_edge(q, &order::edge_counts(store));
+    let edge = ordering::scan_edge(q, &ordering::edge_counts(store));
     let bytes = pack::plan_bytes(q.vertices);
     if plan.len() < bytes {
         return DrawAnswer::refused(24);
@@ -46,7 +46,7 @@ pub fn draw_plan(store: &[u32], query: &[u8], plan: &mut [u8]) -> DrawAnswer
     ensures bytes { λ _. ⌜ now (plan .exit) ≡ drawBytes (now (store .entry)) (now (query .entry)) (now (plan .entry)) ⌝ }
     ensures checked { λ r. ⌜ PassesCheck (now (store .entry)) (now (query .entry)) r (now (plan .exit)) ⌝ }
 {
-    let fault = query::query_fault(query);
+    let fault = query_file::query_fault(query);
     if fault != 0 {
         return DrawAnswer::refused(fault);
     }
@@ -54,5 +54,5 @@ pub fn draw_plan(store: &[u32], query: &[u8], plan: &mut [u8]) -> DrawAnswer
     if fault != 0 {
         return DrawAnswer::refused(fault);
     }
-    draw_accepted(store, Query::of_file(query), plan)
+    draw_accepted(store, query_file::query_of(query), plan)
 }

@@ -1,5 +1,5 @@
 // The drawn plan's file: the operator count (5 bits), the scan's kind (2) and edge (5), then each extend's kind (2) and vertex (3).
-use crate::order::next_vertex;
+use ordering::next_vertex;
 use packed::put_field;
 use plan::Plan;
 use query::Query;
@@ -15,9 +15,9 @@ ghost use Rattle.query.specs.Query.{edgeAt};
 ghost use Rattle.query.specs.inner.Struct.{queryIn};
 ghost use Rattle.query.specs.inner.Mask.{inMask};
 ghost use Rattle.plan.specs.Plan.{ends};
-ghost use Rattle.planner.specs.Order.{extendsFrom};
+ghost use Rattle.ordering.specs.Order.{extendsFrom};
 ghost use Rattle.planner.specs.Draw.{scanBits, extendBits, planBits};
-ghost use Rattle.planner.specs.inner.Parts.{Drawable};
+ghost use Rattle.ordering.specs.inner.Counts.{Drawable};
 
 // The bits of the count and the scan, and those of an extend.
 const SCAN_BITS: usize = 12;

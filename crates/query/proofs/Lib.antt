@@ -1,4 +1,4 @@
--- Laws of the query: its struct, sets of its vertices as masks, and its refusals.
+-- Laws of the query: its struct, sets of its vertices as masks, and connectedness.
 pub mod Images
 pub mod Structs
 pub mod Masks
@@ -6,5 +6,3 @@ pub mod Touch
 pub mod Pairs
 pub mod Steps
 pub mod Connected
-pub mod FileLaws
-pub mod Limits

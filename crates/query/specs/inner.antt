@@ -1,4 +1,3 @@
--- Predicates of inner functions. The query in the code's structs, sets as masks, and the parts of Read query's refusal.
+-- Predicates of inner functions. The query in the code's structs, and sets as masks.
 pub mod Struct
 pub mod Mask
-pub mod Parts

@@ -1,5 +1,5 @@
 // The query: a small labelled graph whose vertices are to be matched. `specs/` says what a query file holds and when it is
-// refused, `proofs/` has the laws.
+// refused, `proofs/` has the laws; `query_file` reads one.
 use graph::Graph;
 ghost use mathlib.Core.Path.{_≡_};
 ghost use mathlib.Core.Bool.{not, _&&_};
@@ -8,13 +8,11 @@ ghost use lib.Dec.{eqb};
 ghost use Rattle.lists.specs.Refusal.{refuse};
 ghost use Rattle.graph.specs.Graph.{maxDay};
 ghost use Rattle.query.specs.Query.{edgeAt, paired, among, between, reached, connected};
-ghost use Rattle.query.specs.File.{maxVertices, maxEdges, queryOf, queryFault};
-ghost use Rattle.query.specs.inner.Parts.{Readable};
-ghost use Rattle.query.specs.Answer.{structOf, noQuery, readAnswer};
+ghost use Rattle.query.specs.File.{maxVertices, maxEdges};
+ghost use Rattle.query.specs.Answer.{structOf, noQuery};
 ghost use Rattle.query.specs.inner.Struct.{edgeStruct, asEdge, queryIn, Held, filterOf};
 ghost use Rattle.query.specs.inner.Mask.{inMask, MaskOf, only, neighbours, withNeighbours};
 
-mod file;
 pub mod set;
 
 pub struct Edge {
@@ -80,39 +78,6 @@ impl Query {
             pairs: 0,
             lows: [0; Query::MAX_PAIRS],
             highs: [0; Query::MAX_PAIRS],
-        }
-    }
-
-    // The query that a file holds.
-    pub fn of_file(file: &[u8]) -> Self
-        requires { ⌜ Readable (now file) ⌝ }
-        ensures { λ r. ⌜ r ≡ structOf (queryOf (now (file .entry))) ⌝ }
-    {
-        let n = file::vertex_count(file);
-        let m = file::edge_count(file);
-        let at = 9 + 48 * n;
-        let labels = file::vertex_fields(file, n, 0);
-        let firsts = file::vertex_fields(file, n, 16);
-        let lasts = file::vertex_fields(file, n, 32);
-        let sources = file::edge_fields(file, at, m, 0, 3);
-        let targets = file::edge_fields(file, at, m, 3, 3);
-        let edge_labels = file::edge_fields(file, at, m, 6, 8);
-        let k = file::pair_count(file, n, m);
-        let from = at + 14 * m + 4;
-        let lows = file::pair_fields(file, from, k, 0);
-        let highs = file::pair_fields(file, from, k, 3);
-        Query {
-            vertices: n,
-            edges: m,
-            labels,
-            firsts,
-            lasts,
-            sources,
-            targets,
-            edge_labels,
-            pairs: k,
-            lows,
-            highs,
         }
     }
 
@@ -218,7 +183,7 @@ impl Query {
     }
 
     // 11 where the query is not connected, else 0.
-    fn connected_fault(self) -> u32
+    pub fn connected_fault(self) -> u32
         requires { ⌜ Held self ⌝ }
         ensures { λ r. ⌜ r ≡ refuse 11 (not (connected (queryIn self))) ⌝ }
     {
@@ -262,32 +227,4 @@ fn pair_end(one: u32, other: u32, v: usize) -> u32
         return set::only(one as usize);
     }
     0
-}
-
-// Read query's refusal: 6, 8, 6, 7, 25, then by edge 9, 10, then by pair 26, then 11; or 0.
-pub fn query_fault(file: &[u8]) -> u32
-    ensures { λ r. ⌜ r ≡ queryFault (now (file .entry)) ⌝ }
-{
-    let fault = file::file_fault(file);
-    if fault != 0 {
-        return fault;
-    }
-    Query::of_file(file).connected_fault()
-}
-
-// Read query.
-pub fn read_query(file: &[u8]) -> ReadQuery
-    ensures { λ r. ⌜ r ≡ readAnswer (now (file .entry)) ⌝ }
-{
-    let refusal = query_fault(file);
-    if refusal != 0 {
-        return ReadQuery {
-            refusal,
-            query: Query::none(),
-        };
-    }
-    ReadQuery {
-        refusal: 0,
-        query: Query::of_file(file),
-    }
 }

@@ -25,8 +25,8 @@ use Rattle.execution.proofs.Records.{count-records}
 use Rattle.execution.proofs.Demand.{run-lists-every-match}
 use Rattle.run.specs.inner.Ran.{Ran}
 use Rattle.run.specs.inner.Answered.{roomFault, recordsAt, Records, Answered, Settles}
-use Rattle.run.specs.declared.pile.Pile.{Pile}
-use Rattle.run.specs.declared.records.Recorded.{Recorded}
+use Rattle.pile.specs.declared.Pile.{Pile}
+use Rattle.records.specs.declared.Recorded.{Recorded}
 
 -- Refusal k, with every other number 0.
 abbrev pub refusedWith : ℕ → RunAnswer

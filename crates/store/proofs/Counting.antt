@@ -9,10 +9,10 @@ use borrow.Author.Tests.{ltb-true, lt-ltb, leb-true, le-leb}
 use Rattle.lists.proofs.Tests.{and-l, and-r, fails}
 use Rattle.graph.specs.Graph.{forward, backward}
 use Rattle.graph.specs.Store.{usedWords}
-use Rattle.store.specs.inner.Side.{verticesIn, edgesIn, sideIn}
-use Rattle.store.specs.inner.Check.{unless, countsFit, Counted}
-use Rattle.store.proofs.Accepted.{side-ends}
-use Rattle.store.proofs.Loops.{refused, answer-passes}
+use Rattle.adjacency.specs.inner.Side.{verticesIn, edgesIn, sideIn}
+use Rattle.short_lists.specs.inner.Check.{unless, countsFit, Counted}
+use Rattle.adjacency.proofs.Accepted.{side-ends}
+use Rattle.short_lists.proofs.Loops.{refused, answer-passes}
 
 ruleset conj = (and-l, and-r)
 

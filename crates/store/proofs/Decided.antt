@@ -10,12 +10,12 @@ use Rattle.lists.specs.Lists.{all, same}
 use Rattle.lists.proofs.Tests.{and-l, and-r, and-both}
 use Rattle.graph.specs.Graph.{Direction, forward, backward}
 use Rattle.graph.specs.Store.{graphIn, storeOf, storeSize, wellFormed, storeFault}
-use Rattle.store.specs.inner.Side.{Within, verticesIn, edgesIn, sideIn}
-use Rattle.store.specs.inner.Check.{unless, countsFit, labelsFit, daysFit, offsetsFit, offsetsOn, sideFits, sideGood, GoodSide, sideMirrored, Counted}
+use Rattle.adjacency.specs.inner.Side.{Within, verticesIn, edgesIn, sideIn}
+use Rattle.short_lists.specs.inner.Check.{unless, countsFit, labelsFit, daysFit, offsetsFit, offsetsOn, sideFits, sideGood, GoodSide, sideMirrored, Counted}
 use Rattle.store.proofs.Counting.{counted-as, forward-room, backward-room}
-use Rattle.store.proofs.Loops.{answer-hands, answer-passes}
-use Rattle.store.proofs.Offsets.{offsets-rising, offsets-within}
-use Rattle.store.proofs.Fits.{good-side}
+use Rattle.short_lists.proofs.Loops.{answer-hands, answer-passes}
+use Rattle.short_lists.proofs.Offsets.{offsets-rising, offsets-within}
+use Rattle.short_lists.proofs.Fits.{good-side}
 use Rattle.store.proofs.Spelt.{Passed, passed-accepted}
 use Rattle.store.proofs.Tested.{accepted-passed}
 

@@ -17,7 +17,7 @@ use Rattle.lists.proofs.Sort.{ascending-map}
 use Rattle.lists.proofs.Maps.{map-under, flatMap-suc}
 use Rattle.lists.proofs.Any.{any-map, any-flatMap, any-some, any-at, any-below, any-follows}
 use Rattle.lists.proofs.Ascending.{ascending-append}
-use Rattle.store.specs.inner.Check.{member}
+use Rattle.adjacency.specs.inner.Portion.{member}
 
 -- The key of entry k of vertex v.
 abbrev pub keyAt : ℕ → ℕ → ℕ

@@ -1,19 +1,7 @@
--- Laws of the store's lists and portions.
-pub mod Members
-pub mod Listed
-pub mod Portions
-pub mod Accepted
-pub mod Between
+-- Laws of the store check.
 pub mod KeyLists
-pub mod Offsets
-pub mod Loops
 pub mod Counting
-pub mod Fits
 pub mod Order
 pub mod Spelt
 pub mod Tested
 pub mod Decided
-pub mod Begun
-pub mod Blocks
-pub mod Few
-pub mod Mirrors

@@ -19,12 +19,12 @@ use Rattle.lists.proofs.Count.{count-snoc, total-append, total-suc, all-flatMap
 use Rattle.lists.proofs.Maps.{flatMap-suc}
 use Rattle.lists.proofs.Bits.{bit-le}
 use Rattle.lists.proofs.Sort.{ascends-from}
-use Rattle.store.specs.inner.Side.{listOn}
-use Rattle.store.specs.inner.Check.{unless, listFits, offsetsFit, offsetsOn, sideFits}
+use Rattle.adjacency.specs.inner.Side.{listOn}
+use Rattle.short_lists.specs.inner.Check.{unless, listFits, offsetsFit, offsetsOn, sideFits}
 use Rattle.store.specs.inner.Order.{fallsFrom, startFalls, faultsOf}
-use Rattle.store.proofs.Offsets.{Rising, offsets-rising, offsets-lists, offsets-length, offset-le}
-use Rattle.store.proofs.Fits.{goodEntry, Entry, good-entry, fit-entries, fit-ascending}
-use Rattle.store.proofs.Loops.{refused, passes}
+use Rattle.short_lists.proofs.Offsets.{Rising, offsets-rising, offsets-lists, offsets-length, offset-le}
+use Rattle.short_lists.proofs.Fits.{goodEntry, Entry, good-entry, fit-entries, fit-ascending}
+use Rattle.short_lists.proofs.Loops.{refused, passes}
 
 -- ---- sums that are 0
 

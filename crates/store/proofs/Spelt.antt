@@ -21,14 +21,15 @@ use Rattle.graph.proofs.WellFormed.{WellFormed, fitting, edge-fitting, formed-w
 use Rattle.graph.proofs.Keys.{keys-ascend, keys-below}
 use Rattle.graph.proofs.Parts.{offset, side, store-shape}
 use Rattle.graph.proofs.StoreGraph.{store-accepted}
-use Rattle.store.specs.inner.Side.{listOn, verticesIn, edgesIn, sideIn}
-use Rattle.store.specs.inner.Check.{countsFit, labelsFit, daysFit, offsetsFit, offsetsOn, sideFits, sideGood, GoodSide, member, mirror, listMirrored, sideMirrored}
+use Rattle.adjacency.specs.inner.Side.{listOn, verticesIn, edgesIn, sideIn}
+use Rattle.adjacency.specs.inner.Portion.{member}
+use Rattle.short_lists.specs.inner.Check.{countsFit, labelsFit, daysFit, offsetsFit, offsetsOn, sideFits, sideGood, GoodSide, mirror, listMirrored, sideMirrored}
 use Rattle.store.proofs.Counting.{Counts, counts-fit}
-use Rattle.store.proofs.Members.{member-sort, ascending-covers}
-use Rattle.store.proofs.Accepted.{side-ends}
+use Rattle.adjacency.proofs.Members.{member-sort, ascending-covers}
+use Rattle.adjacency.proofs.Accepted.{side-ends}
 use Rattle.store.proofs.KeyLists.{keyAt, keysOf, Fit, keys-entries, keys-ascending, keys-before, pair-some, some-pair}
-use Rattle.store.proofs.Offsets.{Rising, offsets-rising, offsets-lists, offsets-length}
-use Rattle.store.proofs.Fits.{goodEntry, Entry, good-entry, fit-entries, good-side, side-list, side-ascends}
+use Rattle.short_lists.proofs.Offsets.{Rising, offsets-rising, offsets-lists, offsets-length}
+use Rattle.short_lists.proofs.Fits.{goodEntry, Entry, good-entry, fit-entries, good-side, side-list, side-ascends}
 
 -- The tests, all passed.
 pub record Passed (store : List ℕ) : Type 0 where

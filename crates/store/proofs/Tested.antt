@@ -16,13 +16,13 @@ use Rattle.graph.specs.Graph.{Edge, Graph, Direction, forward, backward, near, 
 use Rattle.graph.specs.Store.{usedWords, graphIn, storeFault}
 use Rattle.graph.proofs.WellFormed.{WellFormed, fitting}
 use Rattle.graph.proofs.Keys.{near-in, far-in}
-use Rattle.store.specs.inner.Side.{verticesIn, edgesIn, sideIn}
-use Rattle.store.specs.inner.Check.{countsFit, labelsFit, daysFit, offsetsFit, offsetsOn, listFits, sideFits, member, mirror, listMirrored, sideMirrored}
-use Rattle.store.specs.inner.Portion.{listOf}
+use Rattle.adjacency.specs.inner.Side.{verticesIn, edgesIn, sideIn}
+use Rattle.short_lists.specs.inner.Check.{countsFit, labelsFit, daysFit, offsetsFit, offsetsOn, listFits, sideFits, mirror, listMirrored, sideMirrored}
+use Rattle.adjacency.specs.inner.Portion.{listOf, member}
 use Rattle.store.proofs.Counting.{fit-counts}
-use Rattle.store.proofs.Listed.{list-all, list-any, list-ascends, entries-given, entries-fit, entries-in}
-use Rattle.store.proofs.Accepted.{side-ends, graph-formed, store-length, store-edges, offset-in, list-within, list-on}
-use Rattle.store.proofs.Offsets.{Rising, rising-offsets}
+use Rattle.adjacency.proofs.Listed.{list-all, list-any, list-ascends, entries-given, entries-fit, entries-in}
+use Rattle.adjacency.proofs.Accepted.{side-ends, graph-formed, store-length, store-edges, offset-in, list-within, list-on}
+use Rattle.short_lists.proofs.Offsets.{Rising, rising-offsets}
 use Rattle.store.proofs.Spelt.{Passed, listTo}
 
 module _ (g : Graph) (w : WellFormed g) (d : Direction) (v : ℕ) where

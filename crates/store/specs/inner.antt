@@ -1,6 +1,2 @@
--- Predicates of inner functions. The store's lookup: a vertex's list, and its portion for one label; and the parts of the store check.
-pub mod Side
-pub mod Portion
-pub mod Check
+-- Predicates of inner functions. The lists of a side tested all at once.
 pub mod Order
-pub mod Begun

@@ -127,7 +127,11 @@ fn trace_store(store: &[u32], query: &[u8], plan: &[u8]) {
         return;
     }
     print_matches(answer.rows, answer.cost, answer.build, answer.probe);
-    print_rows(&list, query::read_query(query).query.vertices, answer.rows);
+    print_rows(
+        &list,
+        query_file::read_query(query).query.vertices,
+        answer.rows,
+    );
 }
 
 fn trace(graph: &[u8], query: &[u8], plan: &[u8]) {

@@ -1,7 +1,7 @@
 -- `changes::apply_changes` meets its contract. Assumes nothing.
 use borrow.Author.Needs.{needs}
 use mathlib.Core.Path.{sym, _∙_}
-use Rattle.store.proofs.Accepted.{store-counts}
+use Rattle.adjacency.proofs.Accepted.{store-counts}
 use Rattle.changes.proofs.Answers.{tested-sized, few-edges, enough-edges, edges-are, accepted-store, accepted-long, accepted-tested, accepted-all, accepted-room, answer-accepted, store-accepted, answer-refused, store-refused}
 use Rattle.changes.proofs.apply_changes.Statement.{statement}
 use Rattle.changes.proofs.apply_changes.Tie as tie

@@ -2,7 +2,7 @@
 use native.Mathlib.Omega.{arith}
 use borrow.Author.Needs.{needs}
 use mathlib.Core.Path.{sym, _∙_}
-use Rattle.store.proofs.Accepted.{store-counts}
+use Rattle.adjacency.proofs.Accepted.{store-counts}
 use Rattle.changes.proofs.Present.{file-sized}
 use Rattle.changes.proofs.Answers.{tested-by, fault-store, fault-file, fault-edits, fault-many, fault-room, fault-none, tested-sized, few-edges, enough-edges, edges-are}
 use Rattle.changes.proofs.apply_fault.Statement.{statement}

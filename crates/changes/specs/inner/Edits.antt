@@ -4,8 +4,8 @@ use mathlib.Core.List.{List}
 use Prim.Native.Nat.{ℕ}
 use Rattle.graph.specs.Graph.{forward}
 use Rattle.graph.specs.Store.{storeFault}
-use Rattle.store.specs.inner.Side.{verticesIn, sideIn}
-use Rattle.changes.specs.File.{changeCount, changeFault}
+use Rattle.adjacency.specs.inner.Side.{verticesIn, sideIn}
+use Rattle.change_file.specs.File.{changeCount, changeFault}
 
 -- A store that is not refused, of n vertices, whose forward side begins at a word, and a change file of k changes that is not refused.
 pub record Editable (old : List ℕ) (n at : ℕ) (s : List ℕ) (k : ℕ) : Type 0 where

@@ -4,8 +4,8 @@ use denote.Ref.{now}
 use borrow.Author.Needs.{needs}
 use Rattle.query.specs.File.{queryOf, queryFault}
 use Rattle.query.specs.declared.Query.{Query as QueryStruct}
-use Rattle.query.proofs.Structs.{file-struct}
-use Rattle.query.proofs.FileLaws.{query-readable, query-held}
+use Rattle.query_file.proofs.Structs.{file-struct}
+use Rattle.query_file.proofs.FileLaws.{query-readable, query-held}
 use Rattle.plan.specs.inner.Parts.{ofSize, planFileFault}
 use Rattle.plan.specs.inner.Struct.{planStruct}
 use Rattle.plan.proofs.Structs.{file-operators}
@@ -22,7 +22,7 @@ file-is : (c : tie.After-file-fault)
     → let a = c .before .before .before .before .before .before .args in c .file-fault .result ≡ planFileFault (queryOf (now (a .query))) (now (a .plan))
 file-is c =
     let a = c .before .before .before .before .before .before .args in
-    c .file-fault .ensures ∙ ap (λ (d : QueryStruct). planFileFault (ofSize (d .vertices) (d .edges)) (now (a .plan))) (c .before .of-file .ensures)
+    c .file-fault .ensures ∙ ap (λ (d : QueryStruct). planFileFault (ofSize (d .vertices) (d .edges)) (now (a .plan))) (c .before .query-of .ensures)
     ∙ file-fault-size (queryOf (now (a .query))) (now (a .plan))
 
 file-clear : (c : tie.Else2)
@@ -35,8 +35,8 @@ query-fault-requires c κs = search needs
 returns : tie.Need-returns
 returns c = c .before .query-fault .ensures ∙ sym (check-query _ _ (rw (c .before .query-fault .ensures) at (c .if1 .taken)))
 
-of-file-requires : tie.Need-of-file-requires
-of-file-requires c κs = query-readable _ (query-clear c)
+query-of-requires : tie.Need-query-of-requires
+query-of-requires c κs = query-readable _ (query-clear c)
 
 file-fault-requires : tie.Need-file-fault-requires
 file-fault-requires c κs = search needs
@@ -45,22 +45,22 @@ returns-2 : tie.Need-returns-2
 returns-2 c =
     file-is (c .before) ∙ sym (check-file _ _ (query-clear (c .before .before .before)) (rw (file-is (c .before)) at (c .if2 .taken)))
 
-of-file-requires-2 : tie.Need-of-file-requires-2
-of-file-requires-2 c κs = bits-all _ _ (file-clear c)
+of-file-requires : tie.Need-of-file-requires
+of-file-requires c κs = bits-all _ _ (file-clear c)
 
 rules-fault-requires : tie.Need-rules-fault-requires
 unfolding planStruct
 rules-fault-requires c κs =
     let n = c .before .before .before in
     let s = now (n .before .before .before .before .before .args .query) in
-    rw (n .of-file .ensures, c .of-file2 .ensures, file-struct s, file-operators _)
+    rw (n .query-of .ensures, c .of-file .ensures, file-struct s, file-operators _)
     (query-held s (query-clear (n .before)), count-le _, all-named _ _ (file-clear (c .before)))
 
 returns-3 : tie.Need-returns-3
 returns-3 c =
     let n = c .before .before .before .before in
     c .rules-fault .ensures
-    ∙ rw (n .of-file .ensures, c .before .of-file2 .ensures, file-struct, file-operators)
+    ∙ rw (n .query-of .ensures, c .before .of-file .ensures, file-struct, file-operators)
     (sym (check-rules _ _ (query-clear (n .before)) (file-clear (c .before .before))))
 
 pub check-fault-spec : {M : Type 1} → statement M
@@ -69,9 +69,9 @@ check-fault-spec =
     (tie.spec
     query-fault-requires
     returns
-    of-file-requires
+    query-of-requires
     file-fault-requires
     returns-2
-    of-file-requires-2
+    of-file-requires
     rules-fault-requires
     returns-3)

@@ -3,8 +3,8 @@ use mathlib.Core.Path.{_≡_, sym, _∙_}
 use borrow.Author.Needs.{needs}
 use Rattle.graph.specs.Store.{storeFault}
 use Rattle.query.specs.File.{queryFault}
-use Rattle.query.proofs.FileLaws.{query-readable}
-use Rattle.query.proofs.Structs.{file-struct}
+use Rattle.query_file.proofs.FileLaws.{query-readable}
+use Rattle.query_file.proofs.Structs.{file-struct}
 use Rattle.planner.proofs.Answers.{settled-query, settled-store, settled-drawn}
 use Rattle.planner.proofs.Drawing.{read-drawable}
 use Rattle.planner.proofs.draw_plan.Statement.{statement}
@@ -39,11 +39,11 @@ returns-2 c =
     let a = c .before .before .before .before .before .before .before .before .args in
     rw (c .refused2 .ensures) (settled-store (a .store .now) (a .query .now) (a .plan .now) (read (c .before .before .before)) _ (c .before .before .store-fault .ensures) (c .before .if2 .taken))
 
-of-file-requires : tie.Need-of-file-requires
-of-file-requires c κs = query-readable _ (read (c .before .before))
+query-of-requires : tie.Need-query-of-requires
+query-of-requires c κs = query-readable _ (read (c .before .before))
 
 draw-accepted-requires : tie.Need-draw-accepted-requires
-draw-accepted-requires c κs = (rw (c .before .of-file .ensures) (read-drawable _ (read (c .before .before .before .before))), good (c .before .before))
+draw-accepted-requires c κs = (rw (c .before .query-of .ensures) (read-drawable _ (read (c .before .before .before .before))), good (c .before .before))
 
 same-length : tie.Need-same-length
 same-length c = search needs
@@ -52,7 +52,7 @@ returns-3 : tie.Need-returns-3
 returns-3 c =
     let a = c .before .before .before .before .before .before .before .before .before .before .before .before .args in
     settled-drawn (a .store .now) (a .query .now) (a .plan .now) (read (c .before .before .before .before .before .before .before)) (good (c .before .before .before .before .before)) _ _
-    (rw (file-struct (a .query .now)) at (rw (c .before .before .before .before .of-file .ensures) at (c .before .before .draw-accepted .ensures)))
+    (rw (file-struct (a .query .now)) at (rw (c .before .before .before .before .query-of .ensures) at (c .before .before .draw-accepted .ensures)))
 
 pub draw-plan-spec : {M : Type 1} → statement M
 draw-plan-spec =
@@ -64,7 +64,7 @@ draw-plan-spec =
     store-fault-requires
     refused-requires-2
     returns-2
-    of-file-requires
+    query-of-requires
     draw-accepted-requires
     same-length
     returns-3)

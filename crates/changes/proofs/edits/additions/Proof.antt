@@ -5,7 +5,7 @@ use Prim.Native.Nat.{_-_, _≤_}
 use native.Mathlib.Numerals.{add-one}
 use borrow.Author.Needs.{needs}
 use Rattle.lists.specs.Lists.{range, count}
-use Rattle.changes.specs.File.{addsIn}
+use Rattle.change_file.specs.File.{addsIn}
 use Rattle.changes.proofs.Present.{count-zero, count-next}
 use Rattle.changes.proofs.edits.additions.Statement.{statement}
 use Rattle.changes.proofs.edits.additions.Tie as tie

@@ -1,0 +1,2 @@
+-- Laws of the stretch of vertices that a row's pairs leave.
+pub mod Ordering

@@ -1,0 +1,2 @@
+-- Laws of the change file: what its fields hold.
+pub mod Reading

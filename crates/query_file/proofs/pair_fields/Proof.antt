@@ -1,0 +1,77 @@
+-- `query_file::pair_fields` meets its contract: after i pairs, the array has the field of these. Assumes nothing.
+use mathlib.Core.Path.{_≡_, refl}
+use mathlib.Core.List.{map}
+use Prim.Native.Nat.{_-_, _≤_}
+use native.Mathlib.Omega.{arith}
+use borrow.Author.Needs.{needs}
+use Rattle.lists.specs.Lists.{range}
+use Rattle.query.specs.File.{maxPairs}
+use Rattle.query_file.specs.inner.Parts.{pairField}
+use Rattle.query.specs.Answer.{padded}
+use Rattle.query.proofs.Images.{padded-step}
+use Rattle.query_file.proofs.pair_fields.Statement.{statement}
+use Rattle.query_file.proofs.pair_fields.Tie as tie
+
+abbrev Inv-loop : tie.InvT-loop
+Inv-loop file at k offset a₀ i₀ a i = (i ≤ k) × (a ≡ padded maxPairs (map (pairField file at offset) (range i)))
+
+abbrev μ-loop : tie.MeasureT-loop
+μ-loop file at k offset a₀ i₀ a i = k - i
+
+loop-holds : tie.Need-loop-holds Inv-loop μ-loop
+unfolding padded range
+loop-holds c = (omega arith, refl)
+
+mul-field : tie.Need-mul-field Inv-loop μ-loop
+mul-field c = search needs
+
+add-field : tie.Need-add-field Inv-loop μ-loop
+add-field c = search needs
+
+add-field-2 : tie.Need-add-field-2 Inv-loop μ-loop
+add-field-2 c = search needs
+
+field-requires : tie.Need-field-requires Inv-loop μ-loop
+field-requires c κs = search needs
+
+mul-a : tie.Need-mul-a Inv-loop μ-loop
+mul-a c = search needs
+
+array-write-a : tie.Need-array-write-a Inv-loop μ-loop
+array-write-a c = search needs
+
+add-i : tie.Need-add-i Inv-loop μ-loop
+add-i c = search needs
+
+loop-less : tie.Need-loop-less Inv-loop μ-loop
+loop-less c = search needs
+
+loop-again : tie.Need-loop-again Inv-loop μ-loop
+loop-again c =
+    let a = c .before .before .before .before .args in (
+      omega arith,
+      padded-step (pairField (a .file .now) (a .at) (a .offset)) maxPairs _ _ _ (omega arith) (c .field .ensures) (c .before .before .loop .inv .1),
+    )
+
+returns : tie.Need-returns Inv-loop μ-loop
+returns c =
+    let all : c .before .loop .i ≡ c .before .before .before .args .k = omega arith in
+    rw all at (c .before .loop .inv .1)
+
+pub pair-fields-spec : {M : Type 1} → statement M
+pair-fields-spec =
+    tie.close
+    (tie.spec
+    Inv-loop
+    μ-loop
+    loop-holds
+    mul-field
+    add-field
+    add-field-2
+    field-requires
+    mul-a
+    array-write-a
+    add-i
+    loop-less
+    loop-again
+    returns)

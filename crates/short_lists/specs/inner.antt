@@ -1,0 +1,3 @@
+-- Predicates of inner functions. The parts of the store check, and how many lists begin up to an entry.
+pub mod Begun
+pub mod Check
