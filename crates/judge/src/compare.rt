@@ -1,14 +1,14 @@
 // The runs of a plan, against the matcher and against each other.
-use crate::records;
 use crate::runs;
-use crate::runs::*;
-use crate::slices::same_words;
-use crate::tally;
-use crate::tally::Tally;
-use crate::ticks;
-use crate::ticks::Matches;
 use judge_inputs::bits::*;
 use judge_inputs::graphs::Graph;
+use judge_matcher::files::operators;
+use judge_matcher::lent::*;
+use judge_matcher::slices::same_words;
+use judge_matcher::tally;
+use judge_matcher::tally::Tally;
+use judge_matcher::ticks;
+use judge_matcher::ticks::Matches;
 use run::RunAnswer;
 
 // What the runs of a plan are lent, and what the first one answered.
@@ -29,7 +29,7 @@ fn judge_again(
     kind: usize,
     tally: &mut Tally,
 ) -> u32 {
-    let mut list = [runs::MARK; LIST_WORDS];
+    let mut list = [MARK; LIST_WORDS];
     let b = runs::run(store, files, with, &mut list, tally);
     let counts = (a.rows == b.rows) & (a.build == b.build) & (a.probe == b.probe);
     let cost = (b.cost <= a.cost) & (with.cache | (a.cost == b.cost));
@@ -71,7 +71,7 @@ fn judge_list(store: &Store, files: &Files, ran: Ran, first: &List, tally: &mut 
 fn judge_records(store: &Store, files: &Files, ran: Ran, first: &List, tally: &mut Tally) {
     let a = ran.answer;
     let mut w = ran.with;
-    w.records = records::operators(files);
+    w.records = operators(files);
     judge_again(store, files, w, a, first, 0, tally::RECORDS, tally);
     w.records = sub(w.records, 1);
     w.list = w.list / 2;
@@ -90,7 +90,7 @@ pub fn judge_plan(
     plans: usize,
     tally: &mut Tally,
 ) -> bool {
-    let mut first = [runs::MARK; LIST_WORDS];
+    let mut first = [MARK; LIST_WORDS];
     let mut w = with;
     let a = runs::run(store, files, with, &mut first, tally);
     if a.refusal == 20 {
@@ -106,7 +106,7 @@ pub fn judge_plan(
         return false;
     }
     w.cache = plans == 1;
-    w.list = runs::row_words(a.rows, with.width);
+    w.list = row_words(a.rows, with.width);
     let ran = Ran { with: w, answer: a };
     judge_list(store, files, ran, &first, tally);
     judge_records(store, files, ran, &first, tally);

@@ -1,16 +1,16 @@
 // Damaged files and stores through the five operations.
 use crate::runs;
-use crate::runs::*;
-use crate::slices::part;
-use crate::tally;
-use crate::tally::DAMAGED;
-use crate::tally::Tally;
 use judge_inputs::bits::*;
 use judge_inputs::graphs;
 use judge_inputs::graphs::Graph;
 use judge_inputs::queries;
 use judge_inputs::queries::Query;
 use judge_inputs::random::below;
+use judge_matcher::files::*;
+use judge_matcher::lent::*;
+use judge_matcher::slices::part;
+use judge_matcher::tally;
+use judge_matcher::tally::Tally;
 
 // What the operation below refuses, this one refuses with the same number; else it accepts, or refuses with one of its own.
 fn follows(refused: u32, refusal: u32, first: u32, last: u32) -> bool {
@@ -19,7 +19,7 @@ fn follows(refused: u32, refusal: u32, first: u32, last: u32) -> bool {
 
 // Read query, Check plan and Run; answers Run's refusal.
 fn refusal_of(store: &Store, files: &Files, with: Lent, tally: &mut Tally) -> u32 {
-    let mut list = [runs::MARK; runs::LIST_WORDS];
+    let mut list = [MARK; LIST_WORDS];
     let query = part(files, 0, with.query);
     let q = query_file::read_query(query);
     let c = plan::check_plan(query, part(files, PLAN, with.plan));
@@ -29,14 +29,14 @@ fn refusal_of(store: &Store, files: &Files, with: Lent, tally: &mut Tally) -> u3
     let ran = follows(c.refusal, a.refusal, 19, 22);
     let no_query = (q.query.vertices == 0) & (q.query.edges == 0) & (q.query.pairs == 0);
     let zeros = ((q.refusal == 0) | no_query) & ((c.refusal == 0) | (c.operators == 0));
-    tally::judge(tally, DAMAGED, read & checked & ran);
+    tally::judge(tally, tally::DAMAGED, read & checked & ran);
     tally::judge(tally, tally::REFUSED, zeros);
     a.refusal
 }
 
 fn judge_refusal(store: &Store, files: &Files, with: Lent, refusal: u32, tally: &mut Tally) {
     let given = refusal_of(store, files, with, tally);
-    tally::judge(tally, DAMAGED, given == refusal);
+    tally::judge(tally, tally::DAMAGED, given == refusal);
 }
 
 // Files a byte short and a byte long, and a store without its last word.
@@ -63,19 +63,6 @@ fn judge_bit(store: &Store, files: &mut Files, with: Lent, bit: usize, tally: &m
     flip(files, bit, 1);
 }
 
-// A bit of the query's edges.
-fn edge_bit(q: &Query, seed: &mut u64) -> usize {
-    let back = add(1, below(seed, q[queries::EDGES] % 32 * 14));
-    sub(queries::pairs_at(q), back)
-}
-
-// Turns the range of a vertex into one whose first day is just above its last, or back.
-fn turn_range(q: &Query, files: &mut Files, v: usize, last: usize) {
-    let at = 25 + v % 8 * 48;
-    let lasts = put_field(files, at, 16, queries::first_day(q, v) ^ add(last, 1));
-    put_field(files, lasts, 16, queries::last_day(q, v) ^ last);
-}
-
 // A first day above the last gives 25, also where an edge is damaged; with a byte more it is 7.
 fn judge_range(
     q: &Query,
@@ -99,13 +86,6 @@ fn judge_range(
     turn_range(q, files, v, last);
 }
 
-// Puts a pair behind those of the query, or takes it away; answers the bytes of the file that has it.
-fn turn_pair(q: &Query, files: &mut Files, pair: usize) -> usize {
-    let count = q[queries::PAIRS];
-    let at = put_field(files, queries::pairs_at(q), 4, count ^ add(count, 1));
-    bytes_for(put_field(files, add(at, count % 16 * 6), 6, pair))
-}
-
 // A further pair gives 26 where it is bad and else not, a file that ends before it 6. Where an edge gives 9 or 10, a bad pair does not
 // change that; where the query is not connected, it does.
 fn judge_pair(
@@ -125,7 +105,7 @@ fn judge_pair(
     }
     w.query = turn_pair(q, files, pair);
     let refused = refusal_of(store, files, w, tally) == 26;
-    tally::judge(tally, DAMAGED, refused == bad);
+    tally::judge(tally, tally::DAMAGED, refused == bad);
     flip(files, edge, 1);
     let given = refusal_of(store, files, w, tally);
     w.query = sub(w.query, add(1, below(seed, 3)));
@@ -135,7 +115,7 @@ fn judge_pair(
     flip(files, edge, 1);
     let faulty = (other == 9) | (other == 10);
     let due = (faulty & (given == other)) | (!faulty & (given == 26));
-    tally::judge(tally, DAMAGED, due | !bad);
+    tally::judge(tally, tally::DAMAGED, due | !bad);
 }
 
 // A bit of a day in the store of n vertices turned over gives 19 where the day is then above 65,535, and else not.
@@ -147,14 +127,14 @@ fn judge_day(
     seed: &mut u64,
     tally: &mut Tally,
 ) {
-    let i = add(add(2, n), below(seed, n)) % runs::LIST_WORDS;
+    let i = add(add(2, n), below(seed, n)) % LIST_WORDS;
     let bit = below(seed, 32) % 32;
     if n == 0 {
         return;
     }
     store[i] = store[i] ^ (1u32 << bit);
     let refused = refusal_of(store, files, with, tally) == 19;
-    tally::judge(tally, DAMAGED, refused == (15 < bit));
+    tally::judge(tally, tally::DAMAGED, refused == (15 < bit));
     store[i] = store[i] ^ (1u32 << bit);
 }
 
@@ -178,7 +158,7 @@ pub fn judge_run(
     judge_bit(store, files, w, below(seed, w.query % PLAN * 8), tally);
     let plan = PLAN * 8 + below(seed, w.plan % PLAN * 8) % 512;
     judge_bit(store, files, w, plan, tally);
-    let i = below(seed, w.store) % runs::LIST_WORDS;
+    let i = below(seed, w.store) % LIST_WORDS;
     let bit = 1u32 << (below(seed, 32) % 32);
     store[i] = store[i] ^ bit;
     refusal_of(store, files, w, tally);
@@ -187,21 +167,21 @@ pub fn judge_run(
 
 // Load of a graph file a byte short, a byte long and with a bit turned over.
 pub fn judge_load(file: &mut [u8], bytes: usize, words: usize, seed: &mut u64, tally: &mut Tally) {
-    let mut store = [0u32; runs::LIST_WORDS];
+    let mut store = [0u32; LIST_WORDS];
     let short = runs::load(part(file, 0, sub(bytes, 1)), &mut store, words, tally);
-    tally::judge(tally, DAMAGED, short.refusal == 1);
+    tally::judge(tally, tally::DAMAGED, short.refusal == 1);
     let long = runs::load(part(file, 0, add(bytes, 1)), &mut store, words, tally);
-    tally::judge(tally, DAMAGED, long.refusal == 2);
+    tally::judge(tally, tally::DAMAGED, long.refusal == 2);
     flip(file, below(seed, bytes % 65536 * 8), 1);
     let flipped = runs::load(part(file, 0, bytes), &mut store, words, tally);
-    tally::judge(tally, DAMAGED, flipped.refusal < 6);
+    tally::judge(tally, tally::DAMAGED, flipped.refusal < 6);
 }
 
 // What changes to the first words of a store are refused with.
 pub fn judge_unfit(old: &Store, used: usize, file: &[u8], refusal: u32, tally: &mut Tally) {
-    let mut store = [0u32; runs::LIST_WORDS];
-    let a = runs::apply(old, used, file, &mut store, runs::MAX_LIST, tally);
-    tally::judge(tally, DAMAGED, a.refusal == refusal);
+    let mut store = [0u32; LIST_WORDS];
+    let a = runs::apply(old, used, file, &mut store, MAX_LIST, tally);
+    tally::judge(tally, tally::DAMAGED, a.refusal == refusal);
 }
 
 // Changes, with a byte more, a byte less, and to a store without its last word.

@@ -2,15 +2,12 @@
 // shares no code with the engine. It prints how often each kind of result was compared and how often it differed.
 mod compare;
 mod damage;
-mod matcher;
 mod records;
 mod runs;
-mod slices;
 mod stream;
-mod tally;
-mod ticks;
 mod worked;
 
+use judge_matcher::tally;
 use libc::STDOUT_FILENO;
 
 const GRAPHS: usize = 1500;

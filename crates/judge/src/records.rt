@@ -1,9 +1,7 @@
 // The records of a run: marked before, judged afterwards.
-use crate::runs;
-use crate::runs::Files;
-use crate::tally;
-use crate::tally::Tally;
 use execution::Record;
+use judge_matcher::tally;
+use judge_matcher::tally::Tally;
 use lending::Filled;
 use lending::Lending;
 use plan::Plan;
@@ -22,15 +20,6 @@ pub fn marked(lent: usize) -> Lending {
         }; COUNT],
         lent,
     }
-}
-
-fn wide(x: u8) -> usize {
-    x as usize
-}
-
-// The number of operators that the plan's file begins with, in 5 bits.
-pub fn operators(files: &Files) -> usize {
-    wide(files[runs::PLAN]) / 8
 }
 
 // The records from an index on are as before.

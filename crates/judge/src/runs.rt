@@ -1,47 +1,13 @@
 // Load and Run over marked words, with what they leave there judged.
 use crate::records;
-use crate::slices::*;
-use crate::tally;
-use crate::tally::Tally;
-use judge_inputs::bits::add;
+use judge_matcher::files::operators;
+use judge_matcher::lent::*;
+use judge_matcher::slices::*;
+use judge_matcher::tally;
+use judge_matcher::tally::Tally;
 use lending::Filled;
 use load::Loaded;
 use run::RunAnswer;
-
-// What stands in the words before, and how many words past those that are lent are looked at.
-pub const MARK: u32 = 3735928559;
-
-const MARGIN: usize = 8;
-
-pub const MAX_SCRATCH: usize = 16384;
-
-pub const MAX_LIST: usize = 16384;
-
-pub const LIST_WORDS: usize = MAX_LIST + MARGIN;
-
-pub const FILE_BYTES: usize = 168;
-
-// Where the plan's file begins, after the query's.
-pub const PLAN: usize = 104;
-
-pub type List = [u32; LIST_WORDS];
-
-pub type Store = List;
-
-pub type Files = [u8; FILE_BYTES];
-
-// What a run is lent: the words of the store, the bytes of the two files, the cache setting, the words of scratch and list, and the
-// records. A row has `width` words.
-pub struct Lent {
-    pub store: usize,
-    pub query: usize,
-    pub plan: usize,
-    pub cache: bool,
-    pub scratch: usize,
-    pub list: usize,
-    pub records: usize,
-    pub width: usize,
-}
 
 // The one call of Run.
 fn lend(store: &[u32], files: &[u8], with: Lent, scratch: &mut [u32], list: &mut [u32]) -> Filled {
@@ -61,18 +27,6 @@ fn lend(store: &[u32], files: &[u8], with: Lent, scratch: &mut [u32], list: &mut
     )
 }
 
-// The words of so many rows.
-pub fn row_words(rows: usize, width: usize) -> usize {
-    let r = rows % 65536;
-    let words = [0, r, r * 2, r * 3, r * 4, r * 5, r * 6, r * 7, r * 8];
-    words[width % 9]
-}
-
-// The words from an index on are as before, also past those that are lent.
-fn is_marked(s: &[u32], from: usize, lent: usize) -> bool {
-    all_are(s, from, add(lent, MARGIN), MARK)
-}
-
 // A run over marked words of scratch and list and marked records. It clears the scratch, and touches no word of the list past the
 // last row, no record past the last operator, and nothing past what it is lent.
 pub fn run(
@@ -85,7 +39,7 @@ pub fn run(
     let mut scratch = [MARK; MAX_SCRATCH + MARGIN];
     let filled = lend(store, files, with, &mut scratch, list);
     let a = filled.answer;
-    records::judge(filled, records::operators(files), tally);
+    records::judge(filled, operators(files), tally);
     let rows = row_words(a.rows, with.width);
     let words = with.scratch;
     let untouched = is_marked(&scratch, words, words) & is_marked(list, rows, with.list);
@@ -94,11 +48,6 @@ pub fn run(
     let zeros = (a.rows == 0) & (a.cost == 0) & (a.build == 0) & (a.probe == 0);
     tally::judge_refusal(tally, a.refusal, zeros);
     a
-}
-
-// The words of the store of N vertices and M edges.
-pub fn store_words(n: usize, m: usize) -> usize {
-    n % 65536 * 4 + m % 1048576 * 2 + 4
 }
 
 // What Load or Apply changes leaves of so many marked words: it touches none past the used ones, and none at all where it is refused.

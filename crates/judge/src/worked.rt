@@ -1,14 +1,13 @@
 // The cases of document 01 that are not starred: 8 vertices or 24 edges read; 9 vertices, 1 vertex or 25 edges give 8.
-use crate::runs;
-use crate::slices::part;
 use crate::stream;
-use crate::tally;
-use crate::tally::Tally;
-use judge_inputs::bits;
-use judge_inputs::bits::add;
+use judge_inputs::bits::*;
 use judge_inputs::graphs;
 use judge_inputs::queries;
 use judge_inputs::queries::Query;
+use judge_matcher::lent::*;
+use judge_matcher::slices::part;
+use judge_matcher::tally;
+use judge_matcher::tally::Tally;
 
 // A query of n vertices and m edges: the first whose numbers stand so far apart and that a query may have.
 fn set_query(q: &mut Query, n: usize, m: usize, first: usize, apart: usize) {
@@ -26,7 +25,7 @@ fn set_query(q: &mut Query, n: usize, m: usize, first: usize, apart: usize) {
 // list its matches.
 fn judge_over(q: &Query, places: usize, percent: usize, seed: &mut u64, tally: &mut Tally) {
     let mut g = [0usize; graphs::WORDS];
-    let mut store = [0u32; runs::LIST_WORDS];
+    let mut store = [0u32; LIST_WORDS];
     let mut copy = *q;
     graphs::draw(&mut g, places, 4, percent, seed);
     let words = stream::load_graph(&g, &mut store, seed, tally);
@@ -44,10 +43,10 @@ fn judge_accepted(q: &Query, edges: usize, percent: usize, seed: &mut u64, tally
 
 // A file with the counts of n vertices and m edges, of the size that they take without pairs.
 fn judge_refused(n: usize, m: usize, tally: &mut Tally) {
-    let mut file = [0u8; runs::FILE_BYTES];
-    bits::put_field(&mut file, 0, 4, n);
-    bits::put_field(&mut file, 4, 5, m);
-    let bytes = bits::bytes_for(13 + n % 16 * 48 + m % 32 * 14);
+    let mut file = [0u8; FILE_BYTES];
+    put_field(&mut file, 0, 4, n);
+    put_field(&mut file, 4, 5, m);
+    let bytes = bytes_for(13 + n % 16 * 48 + m % 32 * 14);
     let refusal = query_file::read_query(part(&file, 0, bytes)).refusal;
     tally::judge(tally, tally::WORKED, refusal == 8);
 }

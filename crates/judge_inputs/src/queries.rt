@@ -54,20 +54,15 @@ pub fn target(edge: usize) -> usize {
     edge / 4 % 8
 }
 
-// The index of the edge's label: 0 is any label, others are one more than the graph's.
-fn label_index(edge: usize) -> usize {
-    edge % 4
-}
-
-// The label that the file has for an index.
-fn edge_label(l: usize) -> usize {
+// The label that the file has for an edge. Of the four, 0 is any label, and the others are the graph's first three.
+fn edge_label(edge: usize) -> usize {
     let labels = [
         0,
         graphs::edge_label(0),
         graphs::edge_label(1),
         graphs::edge_label(2),
     ];
-    labels[l % 4]
+    labels[edge % 4]
 }
 
 // The graph has the edge between two places.
@@ -77,7 +72,7 @@ pub fn holds(g: &Graph, s: usize, edge: usize, t: usize) -> bool {
     let third = graphs::has(g, s, 2, t);
     let fourth = graphs::has(g, s, 3, t);
     let held = [first | second | third | fourth, first, second, third];
-    held[label_index(edge) % 4]
+    held[edge % 4]
 }
 
 // The edge of an index.
@@ -310,7 +305,7 @@ fn write_edge(q: &mut Query, cell: usize, file: &mut [u8], at: usize) -> usize {
     q[LISTED] = add(q[LISTED], 1);
     let to = put_field(file, at, 3, source(cell));
     let label = put_field(file, to, 3, target(cell));
-    put_field(file, label, 8, edge_label(label_index(cell)))
+    put_field(file, label, 8, edge_label(cell))
 }
 
 fn write_edges(q: &mut Query, file: &mut [u8], from: usize) -> usize {

@@ -1,7 +1,9 @@
 // The rows of a match list, ticked off against the matches of the matcher.
+use crate::lent::*;
 use crate::matcher;
-use crate::runs::List;
-use crate::slices::word;
+use crate::slices::*;
+use crate::tally;
+use crate::tally::Tally;
 use judge_inputs::bits::add;
 use judge_inputs::graphs;
 use judge_inputs::graphs::Graph;
@@ -78,4 +80,12 @@ pub fn are_matches(
         at = add(at, width);
     }
     rows == word(matches, TOTAL)
+}
+
+// Two lists had each match once, and so the same rows.
+pub fn judge_pair(matches: &Matches, files: &Files, other: &Files, tally: &mut Tally) {
+    let end = add(TICKS, word(matches, TOTAL));
+    let twice = all_are(matches, TICKS, end, 2);
+    tally::judge(tally, tally::PAIRS, twice);
+    tally::count(tally, tally::UNLIKE, !same_bytes(files, other) as u64);
 }

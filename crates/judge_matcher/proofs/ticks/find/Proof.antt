@@ -1,8 +1,8 @@
--- `judge::ticks::find` is safe and ends. Assumes nothing.
+-- `judge_matcher::ticks::find` is safe and ends. Assumes nothing.
 use borrow.Author.Needs.{needs}
 use Prim.Native.Nat.{_-_}
-use Rattle.judge.proofs.ticks.find.Statement.{statement}
-use Rattle.judge.proofs.ticks.find.Tie as tie
+use Rattle.judge_matcher.proofs.ticks.find.Statement.{statement}
+use Rattle.judge_matcher.proofs.ticks.find.Tie as tie
 
 pub find-spec : {M : Type 1} → statement M
 find-spec = tie.close (tie.spec

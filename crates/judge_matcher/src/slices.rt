@@ -1,8 +1,6 @@
 // Slices without preconditions: a word outside its slice reads as 0, and a part ends where its slice does.
 ghost use Prim.Native.Nat.{_≤_};
-use crate::runs;
-use crate::runs::Files;
-use crate::runs::List;
+use crate::lent::*;
 
 // The lesser of two lengths.
 pub fn least(a: usize, b: usize) -> usize
@@ -46,7 +44,7 @@ pub fn same_words(a: &List, b: &List, count: usize) -> bool {
 }
 
 pub fn same_bytes(a: &Files, b: &Files) -> bool {
-    for i in 0..runs::FILE_BYTES {
+    for i in 0..FILE_BYTES {
         if a[i] != b[i] {
             return false;
         }

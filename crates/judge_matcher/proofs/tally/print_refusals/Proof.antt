@@ -1,10 +1,10 @@
--- `judge::tally::print_refusals` is safe and ends. Assumes nothing.
+-- `judge_matcher::tally::print_refusals` is safe and ends. Assumes nothing.
 use borrow.Author.Needs.{needs}
 use Prim.Native.Nat.{_-_}
 use mathlib.Core.Path.{_≡_}
 use lib.ListN.{length}
-use Rattle.judge.proofs.tally.print_refusals.Statement.{statement}
-use Rattle.judge.proofs.tally.print_refusals.Tie as tie
+use Rattle.judge_matcher.proofs.tally.print_refusals.Statement.{statement}
+use Rattle.judge_matcher.proofs.tally.print_refusals.Tie as tie
 
 pub print-refusals-spec : {M : Type 1} → statement M
 print-refusals-spec = tie.close (tie.spec

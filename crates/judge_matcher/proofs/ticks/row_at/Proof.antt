@@ -1,8 +1,8 @@
--- `judge::ticks::row_at` is safe and ends. Assumes nothing.
+-- `judge_matcher::ticks::row_at` is safe and ends. Assumes nothing.
 use borrow.Author.Needs.{needs}
 use Prim.Native.Nat.{_-_}
-use Rattle.judge.proofs.ticks.row_at.Statement.{statement}
-use Rattle.judge.proofs.ticks.row_at.Tie as tie
+use Rattle.judge_matcher.proofs.ticks.row_at.Statement.{statement}
+use Rattle.judge_matcher.proofs.ticks.row_at.Tie as tie
 
 pub row-at-spec : {M : Type 1} → statement M
 row-at-spec = tie.close (tie.spec

@@ -1,8 +1,8 @@
--- `judge::ticks::are_matches` is safe and ends. Assumes nothing.
+-- `judge_matcher::ticks::are_matches` is safe and ends. Assumes nothing.
 use borrow.Author.Needs.{needs}
 use Prim.Native.Nat.{_-_}
-use Rattle.judge.proofs.ticks.are_matches.Statement.{statement}
-use Rattle.judge.proofs.ticks.are_matches.Tie as tie
+use Rattle.judge_matcher.proofs.ticks.are_matches.Statement.{statement}
+use Rattle.judge_matcher.proofs.ticks.are_matches.Tie as tie
 
 pub are-matches-spec : {M : Type 1} → statement M
 are-matches-spec = tie.close (tie.spec

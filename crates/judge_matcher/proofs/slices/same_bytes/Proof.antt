@@ -1,8 +1,8 @@
--- `judge::slices::same_bytes` is safe and ends. Assumes nothing.
+-- `judge_matcher::slices::same_bytes` is safe and ends. Assumes nothing.
 use borrow.Author.Needs.{needs}
 use Prim.Native.Nat.{_-_}
-use Rattle.judge.proofs.slices.same_bytes.Statement.{statement}
-use Rattle.judge.proofs.slices.same_bytes.Tie as tie
+use Rattle.judge_matcher.proofs.slices.same_bytes.Statement.{statement}
+use Rattle.judge_matcher.proofs.slices.same_bytes.Tie as tie
 
 pub same-bytes-spec : {M : Type 1} → statement M
 same-bytes-spec = tie.close (tie.spec
