@@ -5,10 +5,8 @@ use judge_inputs::graphs::Graph;
 use judge_matcher::files::operators;
 use judge_matcher::lent::*;
 use judge_matcher::slices::same_words;
-use judge_matcher::tally;
-use judge_matcher::tally::Tally;
-use judge_matcher::ticks;
-use judge_matcher::ticks::Matches;
+use judge_matcher::tally::*;
+use judge_matcher::ticks::*;
 use run::RunAnswer;
 
 // What the runs of a plan are lent, and what the first one answered.
@@ -35,21 +33,20 @@ fn judge_again(
     let cost = (b.cost <= a.cost) & (with.cache | (a.cost == b.cost));
     let same = (b.refusal == 0) & counts & cost & same_words(first, &list, with.list);
     let refused = (b.refusal != 0) & (b.refusal == refusal);
-    let saved = (kind == tally::CACHE) & (b.cost < a.cost);
-    tally::judge(tally, kind, same | refused);
-    tally::count(tally, tally::SAVED, saved as u64);
+    let saved = (kind == CACHE) & (b.cost < a.cost);
+    judge(tally, kind, same | refused);
+    count(tally, SAVED, saved as u64);
     b.refusal
 }
 
 // Lengths of scratch ever closer to the need: those below `short` give 20, and it grows by ever smaller steps until it serves.
 fn judge_scratch(store: &Store, files: &Files, ran: Ran, first: &List, tally: &mut Tally) {
-    let a = ran.answer;
     let mut w = ran.with;
     let mut short = 0;
     for k in 0..14usize {
         let step = 8192usize >> (k % 32);
         w.scratch = sub(add(short, step), 1);
-        if judge_again(store, files, w, a, first, 20, tally::SCRATCH, tally) == 20 {
+        if judge_again(store, files, w, ran.answer, first, 20, SCRATCH, tally) == 20 {
             short = add(short, step);
         }
     }
@@ -57,26 +54,31 @@ fn judge_scratch(store: &Store, files: &Files, ran: Ran, first: &List, tally: &m
 
 // A list of just the rows' words serves as well; one a word shorter gives 21.
 fn judge_list(store: &Store, files: &Files, ran: Ran, first: &List, tally: &mut Tally) {
-    let a = ran.answer;
     let mut w = ran.with;
-    judge_again(store, files, w, a, first, 0, tally::LIST, tally);
+    judge_again(store, files, w, ran.answer, first, 0, LIST, tally);
     if 0 < w.list {
         w.list = sub(w.list, 1);
-        let refusal = judge_again(store, files, w, a, first, 21, tally::LIST, tally);
-        tally::judge(tally, tally::LIST, refusal == 21);
+        let refusal = judge_again(store, files, w, ran.answer, first, 21, LIST, tally);
+        judge(tally, LIST, refusal == 21);
     }
 }
 
 // As many records as the plan has operators serve as well; one fewer gives 22, also where the list is too short.
 fn judge_records(store: &Store, files: &Files, ran: Ran, first: &List, tally: &mut Tally) {
-    let a = ran.answer;
     let mut w = ran.with;
     w.records = operators(files);
-    judge_again(store, files, w, a, first, 0, tally::RECORDS, tally);
+    judge_again(store, files, w, ran.answer, first, 0, RECORDS, tally);
     w.records = sub(w.records, 1);
     w.list = w.list / 2;
-    let refusal = judge_again(store, files, w, a, first, 22, tally::RECORDS, tally);
-    tally::judge(tally, tally::RECORDS, refusal == 22);
+    let refusal = judge_again(store, files, w, ran.answer, first, 22, RECORDS, tally);
+    judge(tally, RECORDS, refusal == 22);
+}
+
+// Counts a plan with rows, one with joined rows, and the rows.
+fn count_rows(a: RunAnswer, tally: &mut Tally) {
+    count(tally, FILLED, (0 < a.rows) as u64);
+    count(tally, JOINED, ((0 < a.build) & (0 < a.probe)) as u64);
+    count(tally, ROWS, a.rows as u64);
 }
 
 // All runs of the last of so many plans of a query; answers whether they were judged, and not too large for the scratch. The first
@@ -96,13 +98,11 @@ pub fn judge_plan(
     if a.refusal == 20 {
         return false;
     }
-    let matched = ticks::are_matches(g, matches, plans, a.rows, with.width, &first);
-    tally::judge(tally, tally::MATCHED, matched & (a.refusal == 0));
-    tally::count(tally, tally::FILLED, (0 < a.rows) as u64);
-    tally::count(tally, tally::JOINED, ((0 < a.build) & (0 < a.probe)) as u64);
-    tally::count(tally, tally::ROWS, a.rows as u64);
+    let matched = are_matches(g, matches, plans, a.rows, with.width, &first);
+    judge(tally, MATCHED, matched & (a.refusal == 0));
+    count_rows(a, tally);
     w.cache = true;
-    if judge_again(store, files, w, a, &first, 20, tally::CACHE, tally) == 20 {
+    if judge_again(store, files, w, a, &first, 20, CACHE, tally) == 20 {
         return false;
     }
     w.cache = plans == 1;

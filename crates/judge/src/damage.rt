@@ -8,9 +8,8 @@ use judge_inputs::queries::Query;
 use judge_inputs::random::below;
 use judge_matcher::files::*;
 use judge_matcher::lent::*;
-use judge_matcher::slices::part;
-use judge_matcher::tally;
-use judge_matcher::tally::Tally;
+use judge_matcher::slices::*;
+use judge_matcher::tally::*;
 
 // What the operation below refuses, this one refuses with the same number; else it accepts, or refuses with one of its own.
 fn follows(refused: u32, refusal: u32, first: u32, last: u32) -> bool {
@@ -29,14 +28,14 @@ fn refusal_of(store: &Store, files: &Files, with: Lent, tally: &mut Tally) -> u3
     let ran = follows(c.refusal, a.refusal, 19, 22);
     let no_query = (q.query.vertices == 0) & (q.query.edges == 0) & (q.query.pairs == 0);
     let zeros = ((q.refusal == 0) | no_query) & ((c.refusal == 0) | (c.operators == 0));
-    tally::judge(tally, tally::DAMAGED, read & checked & ran);
-    tally::judge(tally, tally::REFUSED, zeros);
+    judge(tally, DAMAGED, read & checked & ran);
+    judge(tally, REFUSED, zeros);
     a.refusal
 }
 
 fn judge_refusal(store: &Store, files: &Files, with: Lent, refusal: u32, tally: &mut Tally) {
     let given = refusal_of(store, files, with, tally);
-    tally::judge(tally, tally::DAMAGED, given == refusal);
+    judge(tally, DAMAGED, given == refusal);
 }
 
 // Files a byte short and a byte long, and a store without its last word.
@@ -54,6 +53,15 @@ fn judge_lengths(store: &Store, files: &Files, with: Lent, tally: &mut Tally) {
     w.plan = with.plan;
     w.store = sub(with.store, 1);
     judge_refusal(store, files, w, 19, tally);
+}
+
+// A bit of the store turned over; answers Run's refusal.
+fn turn_store(store: &mut Store, bit: usize, files: &Files, with: Lent, tally: &mut Tally) -> u32 {
+    let i = bit / 32 % LIST_WORDS;
+    store[i] = store[i] ^ (1u32 << (bit % 32));
+    let refusal = refusal_of(store, files, with, tally);
+    store[i] = store[i] ^ (1u32 << (bit % 32));
+    refusal
 }
 
 // A bit of the files turned over.
@@ -105,7 +113,7 @@ fn judge_pair(
     }
     w.query = turn_pair(q, files, pair);
     let refused = refusal_of(store, files, w, tally) == 26;
-    tally::judge(tally, tally::DAMAGED, refused == bad);
+    judge(tally, DAMAGED, refused == bad);
     flip(files, edge, 1);
     let given = refusal_of(store, files, w, tally);
     w.query = sub(w.query, add(1, below(seed, 3)));
@@ -115,7 +123,7 @@ fn judge_pair(
     flip(files, edge, 1);
     let faulty = (other == 9) | (other == 10);
     let due = (faulty & (given == other)) | (!faulty & (given == 26));
-    tally::judge(tally, tally::DAMAGED, due | !bad);
+    judge(tally, DAMAGED, due | !bad);
 }
 
 // A bit of a day in the store of n vertices turned over gives 19 where the day is then above 65,535, and else not.
@@ -132,10 +140,23 @@ fn judge_day(
     if n == 0 {
         return;
     }
-    store[i] = store[i] ^ (1u32 << bit);
-    let refused = refusal_of(store, files, with, tally) == 19;
-    tally::judge(tally, tally::DAMAGED, refused == (15 < bit));
-    store[i] = store[i] ^ (1u32 << bit);
+    let refused = turn_store(store, i * 32 + bit, files, with, tally) == 19;
+    judge(tally, DAMAGED, refused == (15 < bit));
+}
+
+// A bit of the query's file, of the plan's and of the store.
+fn judge_bits(store: &mut Store, files: &mut Files, with: Lent, seed: &mut u64, tally: &mut Tally) {
+    judge_bit(
+        store,
+        files,
+        with,
+        below(seed, with.query % PLAN * 8),
+        tally,
+    );
+    let plan = PLAN * 8 + below(seed, with.plan % PLAN * 8) % 512;
+    judge_bit(store, files, with, plan, tally);
+    let i = below(seed, with.store) % LIST_WORDS;
+    turn_store(store, i * 32 + below(seed, 32) % 32, files, with, tally);
 }
 
 // A run whose files or store are damaged, with a few words of scratch and list.
@@ -155,39 +176,44 @@ pub fn judge_run(
     judge_range(q, store, files, w, seed, tally);
     judge_pair(q, store, files, w, seed, tally);
     judge_day(g[graphs::VERTICES], store, files, w, seed, tally);
-    judge_bit(store, files, w, below(seed, w.query % PLAN * 8), tally);
-    let plan = PLAN * 8 + below(seed, w.plan % PLAN * 8) % 512;
-    judge_bit(store, files, w, plan, tally);
-    let i = below(seed, w.store) % LIST_WORDS;
-    let bit = 1u32 << (below(seed, 32) % 32);
-    store[i] = store[i] ^ bit;
-    refusal_of(store, files, w, tally);
-    store[i] = store[i] ^ bit;
+    judge_bits(store, files, w, seed, tally);
+}
+
+// What Load of a file's first bytes is refused with.
+fn load_refusal(file: &[u8], bytes: usize, words: usize, tally: &mut Tally) -> u32 {
+    let mut store = [0u32; LIST_WORDS];
+    runs::load(part(file, 0, bytes), &mut store, words, tally).refusal
 }
 
 // Load of a graph file a byte short, a byte long and with a bit turned over.
-pub fn judge_load(file: &mut [u8], bytes: usize, words: usize, seed: &mut u64, tally: &mut Tally) {
-    let mut store = [0u32; LIST_WORDS];
-    let short = runs::load(part(file, 0, sub(bytes, 1)), &mut store, words, tally);
-    tally::judge(tally, tally::DAMAGED, short.refusal == 1);
-    let long = runs::load(part(file, 0, add(bytes, 1)), &mut store, words, tally);
-    tally::judge(tally, tally::DAMAGED, long.refusal == 2);
-    flip(file, below(seed, bytes % 65536 * 8), 1);
-    let flipped = runs::load(part(file, 0, bytes), &mut store, words, tally);
-    tally::judge(tally, tally::DAMAGED, flipped.refusal < 6);
+pub fn judge_load(g: &Graph, words: usize, seed: &mut u64, tally: &mut Tally) {
+    let mut file = [0u8; graphs::FILE_BYTES];
+    let bytes = graphs::write(g, &mut file);
+    let short = load_refusal(&file, sub(bytes, 1), words, tally);
+    judge(tally, DAMAGED, short == 1);
+    let long = load_refusal(&file, add(bytes, 1), words, tally);
+    judge(tally, DAMAGED, long == 2);
+    flip(&mut file, below(seed, bytes % 65536 * 8), 1);
+    let flipped = load_refusal(&file, bytes, words, tally);
+    judge(tally, DAMAGED, flipped < 6);
 }
 
-// What changes to the first words of a store are refused with.
-pub fn judge_unfit(old: &Store, used: usize, file: &[u8], refusal: u32, tally: &mut Tally) {
-    let mut store = [0u32; LIST_WORDS];
-    let a = runs::apply(old, used, file, &mut store, MAX_LIST, tally);
-    tally::judge(tally, tally::DAMAGED, a.refusal == refusal);
+// What changes to a store are refused with.
+pub fn judge_unfit(old: &[u32], file: &[u8], refusal: u32, tally: &mut Tally) {
+    let mut new = [0u32; LIST_WORDS];
+    let a = runs::apply(old, file, &mut new, MAX_WORDS, tally);
+    judge(tally, DAMAGED, a.refusal == refusal);
 }
 
 // Changes, with a byte more, a byte less, and to a store without its last word.
-pub fn judge_changes(old: &Store, used: usize, long: &[u8], tally: &mut Tally) {
+pub fn judge_changes(old: &[u32], long: &[u8], tally: &mut Tally) {
     let bytes = sub(long.len(), 1);
-    judge_unfit(old, used, long, 27, tally);
-    judge_unfit(old, used, part(long, 0, sub(bytes, 1)), 27, tally);
-    judge_unfit(old, sub(used, 1), part(long, 0, bytes), 19, tally);
+    judge_unfit(old, long, 27, tally);
+    judge_unfit(old, part(long, 0, sub(bytes, 1)), 27, tally);
+    judge_unfit(
+        first(old, sub(old.len(), 1)),
+        part(long, 0, bytes),
+        19,
+        tally,
+    );
 }

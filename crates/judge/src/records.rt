@@ -26,10 +26,8 @@ pub fn marked(lent: usize) -> Lending {
 fn are_marked(records: [Record; COUNT], from: usize) -> bool {
     for i in 0..COUNT {
         let r = records[i];
-        if from <= i {
-            if (r.rows != MARK) | (r.cost != MARK) {
-                return false;
-            }
+        if (from <= i) & ((r.rows != MARK) | (r.cost != MARK)) {
+            return false;
         }
     }
     true
@@ -49,13 +47,15 @@ fn adds_up(records: [Record; COUNT], count: usize, a: RunAnswer) -> bool {
     (cost == a.cost) & (rows == a.rows as u64)
 }
 
-// Of a run of a plan of so many operators: refused, no record is touched; accepted, none past the last operator, and they add up.
+// Refused, a run answers zeros and touches no record; accepted, the records of its operators add up, and no other is touched.
 pub fn judge(filled: Filled, count: usize, tally: &mut Tally) {
     let a = filled.answer;
     let records = filled.records;
+    let zeros = (a.rows == 0) & (a.cost == 0) & (a.build == 0) & (a.probe == 0);
     let made = if a.refusal == 0 { count } else { 0 };
     tally::judge(tally, tally::UNTOUCHED, are_marked(records, made));
     if a.refusal == 0 {
         tally::judge(tally, tally::RECORDS, adds_up(records, count, a));
     }
+    tally::judge_refusal(tally, a.refusal, zeros);
 }

@@ -3,50 +3,44 @@ use crate::records;
 use judge_matcher::files::operators;
 use judge_matcher::lent::*;
 use judge_matcher::slices::*;
-use judge_matcher::tally;
-use judge_matcher::tally::Tally;
+use judge_matcher::tally::*;
 use lending::Filled;
 use load::Loaded;
 use run::RunAnswer;
 
 // The one call of Run.
-fn lend(store: &[u32], files: &[u8], with: Lent, scratch: &mut [u32], list: &mut [u32]) -> Filled {
-    let used = least(with.store, store.len());
-    let words = least(with.scratch, scratch.len());
-    let room = least(with.list, list.len());
-    let query = part(files, 0, with.query);
-    let plan = part(files, PLAN, with.plan);
-    lending::run_lending(
-        &store[0..used],
-        query,
-        plan,
-        with.cache,
+fn call_run(store: &[u32], files: &[u8], w: Lent, scratch: &mut [u32], list: &mut [u32]) -> Filled {
+    let query = part(files, 0, w.query);
+    let plan = part(files, PLAN, w.plan);
+    let cache = w.cache;
+    let lent = records::marked(w.records);
+    let room = least(w.list, list.len());
+    lending::run_lending(store, query, plan, cache, scratch, &mut list[0..room], lent)
+}
+
+// A run that is lent words of the store and of the scratch.
+fn lend(store: &[u32], files: &[u8], w: Lent, scratch: &mut [u32], list: &mut [u32]) -> Filled {
+    let words = least(w.scratch, scratch.len());
+    call_run(
+        first(store, w.store),
+        files,
+        w,
         &mut scratch[0..words],
-        &mut list[0..room],
-        records::marked(with.records),
+        list,
     )
 }
 
 // A run over marked words of scratch and list and marked records. It clears the scratch, and touches no word of the list past the
 // last row, no record past the last operator, and nothing past what it is lent.
-pub fn run(
-    store: &Store,
-    files: &Files,
-    with: Lent,
-    list: &mut List,
-    tally: &mut Tally,
-) -> RunAnswer {
-    let mut scratch = [MARK; MAX_SCRATCH + MARGIN];
-    let filled = lend(store, files, with, &mut scratch, list);
+pub fn run(store: &Store, files: &Files, w: Lent, list: &mut List, tally: &mut Tally) -> RunAnswer {
+    let mut scratch = [MARK; LIST_WORDS];
+    let filled = lend(store, files, w, &mut scratch, list);
     let a = filled.answer;
+    let rows = row_words(a.rows, w.width);
+    let untouched = is_marked(&scratch, w.scratch, w.scratch) & is_marked(list, rows, w.list);
     records::judge(filled, operators(files), tally);
-    let rows = row_words(a.rows, with.width);
-    let words = with.scratch;
-    let untouched = is_marked(&scratch, words, words) & is_marked(list, rows, with.list);
-    tally::judge(tally, tally::CLEARED, all_are(&scratch, 0, words, 0));
-    tally::judge(tally, tally::UNTOUCHED, untouched);
-    let zeros = (a.rows == 0) & (a.cost == 0) & (a.build == 0) & (a.probe == 0);
-    tally::judge_refusal(tally, a.refusal, zeros);
+    judge(tally, CLEARED, all_are(&scratch, 0, w.scratch, 0));
+    judge(tally, UNTOUCHED, untouched);
     a
 }
 
@@ -55,8 +49,8 @@ fn judge_store(a: Loaded, store: &Store, words: usize, tally: &mut Tally) {
     let zeros = (a.vertices == 0) & (a.edges == 0);
     let counted = store_words(a.vertices, a.edges);
     let used = if a.refusal == 0 { counted } else { 0 };
-    tally::judge(tally, tally::UNTOUCHED, is_marked(store, used, words));
-    tally::judge_refusal(tally, a.refusal, zeros);
+    judge(tally, UNTOUCHED, is_marked(store, used, words));
+    judge_refusal(tally, a.refusal, zeros);
 }
 
 // The one call of Load.
@@ -74,23 +68,15 @@ pub fn load(file: &[u8], store: &mut Store, words: usize, tally: &mut Tally) -> 
 }
 
 // The one call of Apply changes.
-fn lend_stores(old: &[u32], used: usize, file: &[u8], store: &mut [u32], words: usize) -> Loaded {
-    let given = least(used, old.len());
-    let room = least(words, store.len());
-    changes::apply_changes(&old[0..given], file, &mut store[0..room])
+fn lend_stores(old: &[u32], file: &[u8], new: &mut [u32], words: usize) -> Loaded {
+    let room = least(words, new.len());
+    changes::apply_changes(old, file, &mut new[0..room])
 }
 
-// Apply changes to the first words of an old store, to so many marked ones.
-pub fn apply(
-    old: &Store,
-    used: usize,
-    file: &[u8],
-    store: &mut Store,
-    words: usize,
-    tally: &mut Tally,
-) -> Loaded {
-    *store = [MARK; LIST_WORDS];
-    let a = lend_stores(old, used, file, store, words);
-    judge_store(a, store, words, tally);
+// Apply changes to an old store, to so many marked words.
+pub fn apply(old: &[u32], file: &[u8], new: &mut Store, words: usize, tally: &mut Tally) -> Loaded {
+    *new = [MARK; LIST_WORDS];
+    let a = lend_stores(old, file, new, words);
+    judge_store(a, new, words, tally);
     a
 }

@@ -6,13 +6,13 @@ use judge_inputs::queries;
 use judge_inputs::queries::Query;
 use judge_matcher::lent::*;
 use judge_matcher::slices::part;
-use judge_matcher::tally;
-use judge_matcher::tally::Tally;
+use judge_matcher::tally::*;
 
 // A query of n vertices and m edges: the first whose numbers stand so far apart and that a query may have.
 fn set_query(q: &mut Query, n: usize, m: usize, first: usize, apart: usize) {
     let mut edge = first;
-    queries::start(q, n);
+    *q = [0; queries::WORDS];
+    q[queries::VERTICES] = n;
     for _ in 0..64usize {
         if q[queries::EDGES] < m {
             queries::put_edge(q, edge);
@@ -30,13 +30,13 @@ fn judge_over(q: &Query, places: usize, percent: usize, seed: &mut u64, tally: &
     graphs::draw(&mut g, places, 4, percent, seed);
     let words = stream::load_graph(&g, &mut store, seed, tally);
     let judged = stream::judge_query(&g, &mut copy, &mut store, words, seed, tally);
-    tally::judge(tally, tally::WORKED, judged);
+    judge(tally, WORKED, judged);
 }
 
 // Over a graph of as many places as the query has vertices, and over one of a place more.
 fn judge_accepted(q: &Query, edges: usize, percent: usize, seed: &mut u64, tally: &mut Tally) {
     let places = q[queries::VERTICES];
-    tally::judge(tally, tally::WORKED, q[queries::EDGES] == edges);
+    judge(tally, WORKED, q[queries::EDGES] == edges);
     judge_over(q, places, percent, seed, tally);
     judge_over(q, add(places, 1), percent, seed, tally);
 }
@@ -48,7 +48,7 @@ fn judge_refused(n: usize, m: usize, tally: &mut Tally) {
     put_field(&mut file, 4, 5, m);
     let bytes = bytes_for(13 + n % 16 * 48 + m % 32 * 14);
     let refusal = query_file::read_query(part(&file, 0, bytes)).refusal;
-    tally::judge(tally, tally::WORKED, refusal == 8);
+    judge(tally, WORKED, refusal == 8);
 }
 
 pub fn judge_cases(seed: &mut u64, tally: &mut Tally) {

@@ -81,13 +81,13 @@ pub fn has(g: &Graph, s: usize, l: usize, t: usize) -> bool {
 fn turn_edge(g: &mut Graph, cell: usize, percent: usize, seed: &mut u64) {
     let places = g[PLACES];
     let at = CELLS + cell % CELL_COUNT;
-    let percents = [percent, add(percent, percent)];
+    let hub = (cell < 64) as usize;
     if (places <= cell / 64) | (places <= cell % 16) | (g[EDGE_LABELS] <= cell / 16 % 4) {
         return;
     }
-    if chance(seed, percents[(cell < 64) as usize % 2]) {
+    if chance(seed, percent << (hub % 2)) {
         g[at] = g[at] ^ 1;
-        g[EDGES] = sub(add(g[EDGES], add(g[at], g[at])), 1);
+        g[EDGES] = sub(add(g[EDGES], g[at] << 1), 1);
     }
 }
 
@@ -153,16 +153,9 @@ fn write_vertices(g: &Graph, file: &mut [u8], from: usize) -> usize {
     at
 }
 
-// Writes the edge of a cell, if an old graph has it and this one not, or the other way round; before it so many bits that are 1 where
+// Puts the edge of a cell, if an old graph has it and this one not, or the other way round; before it so many bits that are 1 where
 // this one has it.
-fn write_edge(
-    g: &Graph,
-    old: &Graph,
-    cell: usize,
-    bits: usize,
-    file: &mut [u8],
-    at: usize,
-) -> usize {
+fn put_edge(g: &Graph, old: &Graph, cell: usize, bits: usize, file: &mut [u8], at: usize) -> usize {
     let has = g[CELLS + cell % CELL_COUNT];
     if old[CELLS + cell % CELL_COUNT] == has {
         return at;
@@ -176,7 +169,7 @@ fn write_edge(
 fn write_edges(g: &Graph, old: &Graph, bits: usize, file: &mut [u8], from: usize) -> usize {
     let mut at = from;
     for cell in 0..CELL_COUNT {
-        at = write_edge(g, old, cell, bits, file, at);
+        at = put_edge(g, old, cell, bits, file, at);
     }
     at
 }

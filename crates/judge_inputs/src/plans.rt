@@ -120,13 +120,17 @@ fn write_operator(file: &mut [u8], at: usize, operator: usize) -> usize {
     }
 }
 
-// Writes a random accepted plan over zeros from a bit position on, and answers the bit position after it.
-pub fn random(q: &Query, file: &mut [u8], from: usize, seed: &mut u64) -> usize {
-    let mut p = [0usize; WORDS];
-    make(&mut p, q, seed);
+fn write(p: &Plan, file: &mut [u8], from: usize) -> usize {
     let mut at = put_field(file, from, 5, p[COUNT]);
     for i in 0..p[COUNT] % 32 {
         at = write_operator(file, at, p[OPERATORS + i % 32]);
     }
     at
+}
+
+// Writes a random accepted plan over zeros from a bit position on, and answers the bit position after it.
+pub fn random(q: &Query, file: &mut [u8], from: usize, seed: &mut u64) -> usize {
+    let mut p = [0usize; WORDS];
+    make(&mut p, q, seed);
+    write(&p, file, from)
 }

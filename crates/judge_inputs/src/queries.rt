@@ -56,13 +56,10 @@ pub fn target(edge: usize) -> usize {
 
 // The label that the file has for an edge. Of the four, 0 is any label, and the others are the graph's first three.
 fn edge_label(edge: usize) -> usize {
-    let labels = [
-        0,
-        graphs::edge_label(0),
-        graphs::edge_label(1),
-        graphs::edge_label(2),
-    ];
-    labels[edge % 4]
+    if edge % 4 == 0 {
+        return 0;
+    }
+    graphs::edge_label(edge % 4 - 1)
 }
 
 // The graph has the edge between two places.
@@ -123,12 +120,6 @@ pub fn next_to(q: &Query, v: usize) -> usize {
     q[NEXT_TO + v % 8]
 }
 
-// A query of n vertices without edges.
-pub fn start(q: &mut Query, n: usize) {
-    *q = [0; WORDS];
-    q[VERTICES] = n;
-}
-
 // Adds an edge, unless it joins a vertex to itself, leads outside the query, is there, or is one too many.
 pub fn put_edge(q: &mut Query, edge: usize) {
     let s = source(edge);
@@ -140,8 +131,8 @@ pub fn put_edge(q: &mut Query, edge: usize) {
     }
     q[cell] = 1;
     q[EDGES] = add(q[EDGES], 1);
-    q[NEXT_TO + s % 8] = next_to(q, s) | only(t);
-    q[NEXT_TO + t % 8] = next_to(q, t) | only(s);
+    q[NEXT_TO + s % 8] = q[NEXT_TO + s % 8] | only(t);
+    q[NEXT_TO + t % 8] = q[NEXT_TO + t % 8] | only(s);
 }
 
 // Adds a pair, unless its vertices are equal, or it is there or one too many.
@@ -231,11 +222,16 @@ fn draw_pair(q: &mut Query, row: &[usize; 8], turned: usize, seed: &mut u64) {
     }
 }
 
-// Pairs in every second query: a few, or in an eighth of these up to the most; in a fourth they may contradict each other.
-fn draw_pairs(q: &mut Query, row: &[usize; 8], seed: &mut u64) {
+// How often a pair is drawn: a few times, or, in an eighth, so often that there are up to the most.
+fn pair_draws(seed: &mut u64) -> usize {
     let few = add(1, below(seed, 3));
-    let steps = [few, few, few, few, few, few, few, 48];
-    let count = steps[below(seed, 8) % 8];
+    let draws = [few, few, few, few, few, few, few, 48];
+    draws[below(seed, 8) % 8]
+}
+
+// Pairs in every second query; in a fourth they may contradict each other.
+fn draw_pairs(q: &mut Query, row: &[usize; 8], seed: &mut u64) {
+    let count = pair_draws(seed);
     let turned = if chance(seed, 25) { 50 } else { 0 };
     if chance(seed, 50) {
         for _ in 0..count % 64 {
@@ -273,7 +269,8 @@ fn random_vertices(places: usize, any: bool, seed: &mut u64) -> usize {
 // A random connected query; three of four are made of edges of the graph.
 pub fn random(q: &mut Query, g: &Graph, seed: &mut u64) {
     let any = chance(seed, 25);
-    start(q, random_vertices(g[graphs::PLACES], any, seed));
+    *q = [0; WORDS];
+    q[VERTICES] = random_vertices(g[graphs::PLACES], any, seed);
     q[LABELS] = random_labels(seed);
     q[RANGES] = random_ranges(q[VERTICES], seed);
     let mut row = [graphs::NO_PLACE; 8];

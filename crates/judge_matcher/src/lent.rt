@@ -5,13 +5,12 @@ use judge_inputs::bits::add;
 // What stands in the words before, and how many words past those that are lent are looked at.
 pub const MARK: u32 = 3735928559;
 
-pub const MARGIN: usize = 8;
+const MARGIN: usize = 8;
 
-pub const MAX_SCRATCH: usize = 16384;
+// How many words of scratch, list or store are lent at most.
+pub const MAX_WORDS: usize = 16384;
 
-pub const MAX_LIST: usize = 16384;
-
-pub const LIST_WORDS: usize = MAX_LIST + MARGIN;
+pub const LIST_WORDS: usize = MAX_WORDS + MARGIN;
 
 pub const FILE_BYTES: usize = 168;
 

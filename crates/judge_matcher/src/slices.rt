@@ -52,6 +52,12 @@ pub fn same_bytes(a: &Files, b: &Files) -> bool {
     true
 }
 
+// So many words from the start on.
+pub fn first(s: &[u32], count: usize) -> &[u32] {
+    let end = least(count, s.len());
+    &s[0..end]
+}
+
 // So many bytes from an index on.
 pub fn part(s: &[u8], from: usize, count: usize) -> &[u8] {
     let start = least(from, s.len());

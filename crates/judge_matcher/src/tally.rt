@@ -113,6 +113,9 @@ fn print_stream(tally: &Tally) {
     print_count(b", queries ", tally[QUERIES]);
     print_count(b", with matches and a range of days ", tally[DATED]);
     print_count(b", with matches and pairs ", tally[PAIRED]);
+}
+
+fn print_plans(tally: &Tally) {
     print_count(b", pairs of unlike plans ", tally[UNLIKE]);
     print_count(b", plans with rows ", tally[FILLED]);
     print_count(b", with joined rows ", tally[JOINED]);
@@ -120,11 +123,15 @@ fn print_stream(tally: &Tally) {
     print_count(b", rows ", tally[ROWS]);
 }
 
+fn print_refusal(tally: &Tally, k: usize) {
+    print_count(b" ", k as u64);
+    print_count(b":", tally[REFUSALS + k % 32]);
+}
+
 fn print_refusals(tally: &Tally) {
     io::write_all(STDOUT_FILENO, b"\nrefusals");
-    for k in 1..30 {
-        print_count(b" ", k);
-        print_count(b":", tally[REFUSALS + k as usize % 32]);
+    for k in 1..30usize {
+        print_refusal(tally, k);
     }
     io::write_all(STDOUT_FILENO, b"\n");
 }
@@ -133,5 +140,6 @@ pub fn print(tally: &Tally) {
     print_rows(tally);
     print_words(tally);
     print_stream(tally);
+    print_plans(tally);
     print_refusals(tally);
 }

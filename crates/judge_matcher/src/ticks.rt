@@ -2,8 +2,7 @@
 use crate::lent::*;
 use crate::matcher;
 use crate::slices::*;
-use crate::tally;
-use crate::tally::Tally;
+use crate::tally::*;
 use judge_inputs::bits::add;
 use judge_inputs::graphs;
 use judge_inputs::graphs::Graph;
@@ -86,6 +85,6 @@ pub fn are_matches(
 pub fn judge_pair(matches: &Matches, files: &Files, other: &Files, tally: &mut Tally) {
     let end = add(TICKS, word(matches, TOTAL));
     let twice = all_are(matches, TICKS, end, 2);
-    tally::judge(tally, tally::PAIRS, twice);
-    tally::count(tally, tally::UNLIKE, !same_bytes(files, other) as u64);
+    judge(tally, PAIRS, twice);
+    count(tally, UNLIKE, !same_bytes(files, other) as u64);
 }

@@ -1,14 +1,12 @@
 -- `judge_matcher::tally::print_refusals` is safe and ends. Assumes nothing.
 use borrow.Author.Needs.{needs}
 use Prim.Native.Nat.{_-_}
-use mathlib.Core.Path.{_≡_}
-use lib.ListN.{length}
 use Rattle.judge_matcher.proofs.tally.print_refusals.Statement.{statement}
 use Rattle.judge_matcher.proofs.tally.print_refusals.Tie as tie
 
 pub print-refusals-spec : {M : Type 1} → statement M
 print-refusals-spec = tie.close (tie.spec
-    (λ tally k₀ t4 t5 t6 k. length t4 ≡ 1 × length t5 ≡ 1)
-    (λ tally k₀ t4 t5 t6 k. 30 - k)
+    (λ tally k₀ t4 k. Unit {0})
+    (λ tally k₀ t4 k. 30 - k)
     (search needs) (search needs) (search needs) (search needs) (search needs) (search needs) (search needs) (search needs)
-    (search needs) (search needs) (search needs) (search needs) (search needs) (search needs) (search needs) (search needs))
+    (search needs) (search needs))
