@@ -9,11 +9,15 @@ mod worked;
 
 use judge_matcher::tally;
 
+const GRAPHS: usize = 1500;
+
+const SEED: u64 = 88172645463325252;
+
 fn main() {
-    let mut seed = 88172645463325252;
+    let mut seed = SEED;
     let mut tally = [0u64; tally::WORDS];
     io::write_all(libc::STDOUT_FILENO, b"judge\n");
     worked::judge_cases(&mut seed, &mut tally);
-    stream::judge_graphs(1500, &mut seed, &mut tally);
+    stream::judge_graphs(GRAPHS, &mut seed, &mut tally);
     tally::print(&tally);
 }

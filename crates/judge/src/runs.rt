@@ -14,20 +14,15 @@ fn call_run(store: &[u32], files: &[u8], w: Lent, scratch: &mut [u32], list: &mu
     let plan = part(files, PLAN, w.plan);
     let cache = w.cache;
     let lent = records::marked(w.records);
-    let room = least(w.list, list.len());
-    lending::run_lending(store, query, plan, cache, scratch, &mut list[0..room], lent)
+    lending::run_lending(store, query, plan, cache, scratch, list, lent)
 }
 
-// A run that is lent words of the store and of the scratch.
+// A run that is lent words of the store, the scratch and the list.
 fn lend(store: &[u32], files: &[u8], w: Lent, scratch: &mut [u32], list: &mut [u32]) -> Filled {
+    let used = first(store, w.store);
     let words = least(w.scratch, scratch.len());
-    call_run(
-        first(store, w.store),
-        files,
-        w,
-        &mut scratch[0..words],
-        list,
-    )
+    let room = least(w.list, list.len());
+    call_run(used, files, w, &mut scratch[0..words], &mut list[0..room])
 }
 
 // A run over marked words of scratch and list and marked records. It clears the scratch, and touches no word of the list past the
