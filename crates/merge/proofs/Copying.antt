@@ -184,6 +184,9 @@ module _ {old : List ℕ} {n at : ℕ} {ks : List ℕ} (s : SideOf old n at ks) 
     pub one-long : length one ≡ length side
     one-long = ap length one-is ∙ rw (length-append, front, length-append, length-drop, es-long) (omega (arith, copy-fits))
 
+    pub one-has : v + 1 ≤ length one
+    one-has = omega (arith, one-long, c .upward, c .inside, copy-fits)
+
     one-starts : (i : ℕ) → i ≤ n → getD one i 0 ≡ getD side i 0
     one-starts i l =
         ap (λ (t : List ℕ). getD t i 0) one-is
@@ -218,10 +221,10 @@ module _ {old : List ℕ} {n at : ℕ} {ks : List ℕ} (s : SideOf old n at ks) 
       two = take (v + 1) one ++ (moved ++ drop (length one - (v + 1)) (drop (v + 1) one))
 
       two-is : two ≡ take (v + 1) one ++ moved
-      two-is = tail-back one moved (v + 1) (omega (arith, one-long, c .upward, c .inside, copy-fits))
+      two-is = tail-back one moved (v + 1) one-has
 
       head : length (take (v + 1) one) ≡ v + 1
-      head = length-take-le (v + 1) one (omega (arith, one-long, c .upward, c .inside, copy-fits))
+      head = length-take-le (v + 1) one one-has
 
       pub two-long : length two ≡ length side
       two-long =
