@@ -14,13 +14,12 @@ use Rattle.lists.proofs.Tests.{not-false}
 use Rattle.lists.proofs.Faults.{refuse-zero}
 use Rattle.lists.proofs.Sort.{length-sort, sort-ascending}
 use Rattle.lists.proofs.Maps.{length-image}
-use Rattle.lists.proofs.Parts.{rest-at, drop-take}
+use Rattle.lists.proofs.Parts.{rest-at, drop-take, tail-back}
 use Rattle.graph.specs.Graph.{Direction, forward, backward, key}
 use Rattle.graph.specs.Store.{graphIn, storeFault, offsets, entries, storeOf, usedWords}
 use Rattle.graph.proofs.WellFormed.{WellFormed, formed-well}
 use Rattle.graph.proofs.Keys.{sortedKeys}
 use Rattle.graph.proofs.Parts.{length-offsets, length-entries, store-shape}
-use Rattle.load.proofs.Written.{tail-back}
 use Rattle.adjacency.specs.inner.Side.{sideIn, verticesIn, edgesIn}
 use Rattle.adjacency.proofs.Accepted.{graph-formed, store-vertices, store-edges, store-length}
 use Rattle.mirror.specs.inner.Mirror.{ForwardSide, Mirrorable, Mirrored}

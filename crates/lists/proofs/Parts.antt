@@ -1,10 +1,10 @@
 -- Laws of parts of a list, `take` and `drop`, beyond the library's. Assumes nothing.
 use mathlib.Core.Path.{_≡_, sym, _∙_, ap}
-use mathlib.Core.List.{List, [], _∷_}
+use mathlib.Core.List.{List, [], _∷_, _++_, append-nil}
 use Prim.Native.Nat.{ℕ, zero, suc, _+_, _-_, _≤_}
-use native.Mathlib.Nat.{sub-zero, suc-sub-suc, zero-sub}
+use native.Mathlib.Nat.{sub-zero, suc-sub-suc, zero-sub, le-of-eq}
 use native.Mathlib.Omega.{arith}
-use lib.ListN.{length, take, drop, length-drop}
+use lib.ListN.{length, take, drop, length-drop, drop-of-length-le}
 use lib.Seq.{take-nil, take-take, take-all}
 
 module _ {A : Type 0} where
@@ -26,3 +26,10 @@ module _ {A : Type 0} where
   -- As many elements as there are from a position on are all of them.
   pub rest-at : (l : List A) (at : ℕ) → take (length l - at) (drop at l) ≡ drop at l
   rest-at l at = take-all (length l - at) (drop at l) (rw length-drop (omega arith))
+
+  -- A part from a position to the end, lent and given back.
+  pub tail-back : (ws part : List A) (at : ℕ) → at ≤ length ws → take at ws ++ (part ++ drop (length ws - at) (drop at ws)) ≡ take at ws ++ part
+  tail-back ws part at h =
+      let none : drop (length ws - at) (drop at ws) ≡ [] = drop-of-length-le (drop at ws) (le-of-eq (length-drop at ws)) in
+      ap (λ (l : List A). take at ws ++ (part ++ l)) none
+      ∙ ap (λ (l : List A). take at ws ++ l) (append-nil part)

@@ -1,10 +1,5 @@
--- Laws of Load: the stable counting pass that fills the store.
-pub mod Grouped
-pub mod Sorted
+-- Laws of Load: the passes that fill the store.
 pub mod Sides
-pub mod Placing
-pub mod Filling
-pub mod Counting
 pub mod Forward
 pub mod ByLabel
 pub mod ByTarget

@@ -1,3 +1,2 @@
--- Predicates of inner functions. What the functions of Load ask of a file, the groups by which it sorts, and what it writes.
-pub mod Groups
+-- Predicates of inner functions. What the functions of Load ask of a file, and what they write.
 pub mod Sides

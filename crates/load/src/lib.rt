@@ -6,9 +6,6 @@ ghost use Rattle.load.specs.Answer.{loadAnswer};
 
 mod fill;
 
-pub use fill::accumulate;
-pub use fill::place;
-
 // What Load answers: a refusal with zeros, or 0 with N and M.
 pub struct Loaded {
     pub refusal: u32,

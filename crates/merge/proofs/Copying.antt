@@ -11,8 +11,7 @@ use borrow.Author.Tests.{ltb-true, ltb-false, lt-ltb}
 use Rattle.lists.specs.Lists.{ascending}
 use Rattle.lists.proofs.All.{all-true}
 use Rattle.lists.proofs.Count.{count-mono, count-le}
-use Rattle.lists.proofs.Parts.{rest-at, drop-take}
-use Rattle.load.proofs.Written.{tail-back}
+use Rattle.lists.proofs.Parts.{rest-at, drop-take, tail-back}
 use Rattle.merge.specs.inner.Merge.{entriesOf, below, entriesBelow, SideOf, Written, Untouched, Copyable, Moved}
 use Rattle.merge.proofs.Parting.{length-below, entries-next, below-next}
 

@@ -15,8 +15,7 @@ use Rattle.lists.proofs.All.{all-getD, all-follows, map-getD, keep-none}
 use Rattle.lists.proofs.Count.{count-le}
 use Rattle.lists.proofs.Ascending.{ascending-drop, ascending-above}
 use Rattle.lists.proofs.Maps.{image-ext}
-use Rattle.lists.proofs.Parts.{rest-at}
-use Rattle.load.proofs.Written.{tail-back}
+use Rattle.lists.proofs.Parts.{rest-at, tail-back}
 use Rattle.merge.specs.inner.Toggle.{toggled}
 use Rattle.merge.specs.inner.Merge.{keyAt, entriesOf, below, entriesBelow, sideWords, Fitting, Mergeable, Written, Untouched, Copyable, Copied}
 use Rattle.merge.proofs.Toggles.{ascending-toggled, all-toggled}

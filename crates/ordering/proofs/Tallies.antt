@@ -19,8 +19,8 @@ use Rattle.graph.specs.inner.Side.{sideAt}
 use Rattle.graph.proofs.WellFormed.{fitting}
 use Rattle.graph.proofs.Keys.{entry-fits, entry-label, forward-entries}
 use Rattle.graph.proofs.Parts.{store-entries, length-entries, sideStart, sideEnd}
-use Rattle.load.specs.inner.Groups.{groupSizes}
-use Rattle.load.proofs.Counting.{Tallied, set-image}
+use Rattle.counting_sort.specs.inner.Groups.{groupSizes}
+use Rattle.counting_sort.proofs.Counting.{Tallied, set-image}
 use Rattle.adjacency.specs.inner.Side.{verticesIn, edgesIn}
 use Rattle.adjacency.proofs.Accepted.{graph-formed, store-whole, store-vertices, store-edges, store-length}
 use Rattle.query.specs.Query.{Query, edgeAt}

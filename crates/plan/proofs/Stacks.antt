@@ -7,8 +7,7 @@ use native.Mathlib.Numerals.{add-one}
 use native.Mathlib.Omega.{arith}
 use lib.ListN.{length, getD, set, drop}
 use lib.Seq.{getD-set-same, getD-set-other}
-use Rattle.plan.specs.inner.Pile.{stack, masksIn}
-use Rattle.plan.specs.declared.rules.Pile.{Pile}
+use Rattle.plan.specs.inner.Pile.{stack}
 
 pub length-stack : (d : ℕ) (xs : List ℕ) → length (stack d xs) ≡ d
 unfolding stack
@@ -41,7 +40,3 @@ getD-stack k zero xs h = absurd (not-suc-le-zero h)
 getD-stack zero (suc d) xs h = let top : suc d - 1 - 0 ≡ d = omega arith in rw top
 getD-stack (suc k) (suc d) xs h =
     let under : suc d - 1 - suc k ≡ d - 1 - k = omega arith in rw under (getD-stack k d xs (le-of-suc-le-suc h))
-
--- A pile has as many masks as its depth says.
-pub depth-is : (p : Pile) → length (masksIn p) ≡ p .depth
-depth-is p = length-stack (p .depth) (p .sets)

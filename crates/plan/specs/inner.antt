@@ -1,4 +1,3 @@
--- Predicates of inner functions. The plan and the pile in the code's structs, and the parts of Check plan's refusal.
+-- Predicates of inner functions. The plan in the code's structs, and a pile in an array.
 pub mod Struct
-pub mod Parts
 pub mod Pile

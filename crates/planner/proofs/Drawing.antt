@@ -26,8 +26,8 @@ use Rattle.query_file.proofs.FileLaws.{query-readable, query-held, query-connec
 use Rattle.plan.specs.Plan.{Operator, ends}
 use Rattle.plan.specs.Check.{ruleFault, covered, rulesFault}
 use Rattle.plan.specs.File.{operatorsOf, checkFault}
-use Rattle.plan.specs.inner.Parts.{planFileFault}
-use Rattle.plan.proofs.Accepted.{check-rules}
+use Rattle.plan_file.specs.inner.Parts.{planFileFault}
+use Rattle.plan_file.proofs.Accepted.{check-rules}
 use Rattle.lists.proofs.Maps.{length-image}
 use Rattle.matching.proofs.Cuts.{proper, proper-source, proper-target, proper-ends}
 use Rattle.execution.specs.declared.Record.{Record}

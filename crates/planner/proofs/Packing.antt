@@ -20,7 +20,7 @@ use Rattle.packed.proofs.RoundTrip.{length-bitsOf, number-bitsOf, number-left, 
 use Rattle.query.specs.Query.{Query}
 use Rattle.plan.specs.Plan.{scan, extend, join, scanKind, extendKind, noKind}
 use Rattle.plan.specs.File.{operatorCount, kindAt, operandBits, operatorAt, place, operatorsOf, operatorFault}
-use Rattle.plan.specs.inner.Parts.{endFaults, planFileFault}
+use Rattle.plan_file.specs.inner.Parts.{endFaults, planFileFault}
 use Rattle.planner.specs.Draw.{scanBits, extendBits, planBits}
 
 abbrev pub fileOf : ℕ → List ℕ → List ℕ

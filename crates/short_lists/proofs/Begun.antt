@@ -14,8 +14,8 @@ use Rattle.lists.proofs.Tests.{clash, iff}
 use Rattle.lists.proofs.All.{length-range, all-range}
 use Rattle.lists.proofs.Count.{count-le, count-snoc, count-all, count-under}
 use Rattle.lists.proofs.Maps.{image-ext, getD-image, length-image}
-use Rattle.load.specs.inner.Groups.{groupStart, groupSizes, groupEnds}
-use Rattle.load.proofs.Counting.{Tallied, length-sizes, size-at, set-image}
+use Rattle.counting_sort.specs.inner.Groups.{groupStart, groupSizes, groupEnds}
+use Rattle.counting_sort.proofs.Counting.{Tallied, length-sizes, size-at, set-image}
 use Rattle.short_lists.specs.inner.Check.{offsetsFit}
 use Rattle.short_lists.specs.inner.Begun.{begun, begunIn, Begins, startIn}
 use Rattle.short_lists.proofs.Offsets.{Rising, fit-rising}

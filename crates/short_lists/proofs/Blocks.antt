@@ -14,8 +14,8 @@ use Rattle.lists.proofs.Tests.{clash, iff}
 use Rattle.lists.proofs.All.{length-range, all-range}
 use Rattle.lists.proofs.Count.{count-le, count-snoc, count-all, count-under, count-passes}
 use Rattle.lists.proofs.Maps.{image-ext, length-image}
-use Rattle.load.specs.inner.Groups.{groupStart, groupSizes, groupEnds, runningSums}
-use Rattle.load.proofs.Counting.{Tallied, length-sizes, size-at, sums-ends, sums-fit}
+use Rattle.counting_sort.specs.inner.Groups.{groupStart, groupSizes, groupEnds, runningSums}
+use Rattle.counting_sort.proofs.Counting.{Tallied, length-sizes, size-at, sums-ends, sums-fit}
 use Rattle.short_lists.specs.inner.Check.{offsetsFit}
 use Rattle.short_lists.specs.inner.Begun.{begun, begunIn, Begins, startIn}
 use Rattle.short_lists.proofs.Begun.{Offsets, begun-split, begins-before, begins-after, begun-few, rises-on, last-is}

@@ -12,7 +12,7 @@ ghost use lib.Dec.{eqb};
 ghost use lib.ListN.{length, getD, take, drop};
 ghost use Rattle.lists.specs.Lists.{bit, range, all};
 ghost use Rattle.graph.specs.Graph.{maxGraphVertices, entrySpan};
-ghost use Rattle.load.specs.inner.Groups.{groupSizes};
+ghost use Rattle.counting_sort.specs.inner.Groups.{groupSizes};
 ghost use Rattle.adjacency.specs.inner.Side.{listOn};
 ghost use Rattle.adjacency.specs.inner.Portion.{member};
 ghost use Rattle.short_lists.specs.inner.Check.{unless, mirror, GoodSide, sideMirrored};
@@ -121,7 +121,7 @@ fn lists_begun(starts: &[u32], next: usize, base: usize, begun: &mut [u32])
     ensures { λ _. ⌜ now (begun .exit) ≡ begunIn (now (starts .entry)) base ⌝ }
 {
     count_starts(starts, next, base, begun);
-    load::accumulate(begun);
+    counting_sort::accumulate(begun);
 }
 
 // The entries of a block that begins at one of them: up to its end or theirs.

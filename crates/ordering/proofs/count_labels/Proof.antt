@@ -5,7 +5,7 @@ use Prim.Native.Nat.{_-_, _≤_}
 use native.Mathlib.Omega.{arith}
 use lib.ListN.{length}
 use borrow.Author.Needs.{needs}
-use Rattle.load.proofs.Counting.{Tallied, tallied-none, tallied-fits, tallied-more}
+use Rattle.counting_sort.proofs.Counting.{Tallied, tallied-none, tallied-fits, tallied-more}
 use Rattle.ordering.proofs.Tallies.{labelAt, label-below, tallied-all}
 use Rattle.ordering.proofs.count_labels.Statement.{statement}
 use Rattle.ordering.proofs.count_labels.Tie as tie

@@ -1,28 +1,18 @@
--- The pile of results as the code has it, and the rules of a plan in the parts that the code tests. Assumes nothing.
+-- A pile of results in an array, and the rules of a plan in the parts that the code tests. Assumes nothing.
 use mathlib.Core.Bool.{Bool, true, _||_}
-use mathlib.Core.List.{List, [], _∷_, map}
+use mathlib.Core.List.{List, [], _∷_}
 use Prim.Native.Nat.{ℕ, zero, suc}
 use lib.ListN.{length, getD}
 use lib.Dec.{ltb}
 use Rattle.lists.specs.Lists.{_⇒_}
 use Rattle.graph.specs.Graph.{Edge}
 use Rattle.query.specs.Query.{Query, VertexSet, inside}
-use Rattle.query.specs.inner.Mask.{inMask}
 use Rattle.plan.specs.Plan.{Operator, scan, extend, join, union}
-use Rattle.plan.specs.declared.rules.Pile.{Pile}
 
 -- The first d numbers of an array as a pile, the last of them on top.
 unfoldable pub stack : ℕ → List ℕ → List ℕ
 stack zero xs = []
 stack (suc d) xs = getD xs d 0 ∷ stack d xs
-
--- The masks of a pile's sets, the top one first.
-abbrev pub masksIn : Pile → List ℕ
-masksIn p = stack (p .depth) (p .sets)
-
--- The sets that the results in a pile cover, the top one first.
-abbrev pub setsIn : Pile → List VertexSet
-setsIn p = map inMask (masksIn p)
 
 -- The query has the edge or the vertex that an operator names.
 abbrev pub named : Query → Operator → Bool

@@ -5,7 +5,7 @@ use Prim.Native.Nat.{ℕ, _-_, _≤_, _<_}
 use native.Mathlib.Omega.{arith}
 use borrow.Author.Needs.{needs}
 use lib.ListN.{length, getD, replicate}
-use Rattle.load.proofs.Counting.{Tallied, tallied-fits, tallied-more}
+use Rattle.counting_sort.proofs.Counting.{Tallied, tallied-fits, tallied-more}
 use Rattle.short_lists.specs.inner.Begun.{startIn}
 use Rattle.short_lists.proofs.Blocks.{next-few, start-small, not-before, tallied-first, tallied-passed, tallied-all}
 use Rattle.short_lists.proofs.count_starts.Statement.{statement}
