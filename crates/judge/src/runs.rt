@@ -1,11 +1,10 @@
-// Load and Run over marked words, with what they leave there judged.
+// Run over marked words, with what it leaves there judged.
 use crate::records;
 use judge_matcher::files::operators;
 use judge_matcher::lent::*;
 use judge_matcher::slices::*;
 use judge_matcher::tally::*;
 use lending::Filled;
-use load::Loaded;
 use run::RunAnswer;
 
 // The one call of Run.
@@ -36,42 +35,5 @@ pub fn run(store: &Store, files: &Files, w: Lent, list: &mut List, tally: &mut T
     records::judge(filled, operators(files), tally);
     judge(tally, CLEARED, all_are(&scratch, 0, w.scratch, 0));
     judge(tally, UNTOUCHED, untouched);
-    a
-}
-
-// What Load or Apply changes leaves of so many marked words: it touches none past the used ones, and none at all where it is refused.
-fn judge_store(a: Loaded, store: &Store, words: usize, tally: &mut Tally) {
-    let zeros = (a.vertices == 0) & (a.edges == 0);
-    let counted = store_words(a.vertices, a.edges);
-    let used = if a.refusal == 0 { counted } else { 0 };
-    judge(tally, UNTOUCHED, is_marked(store, used, words));
-    judge_refusal(tally, a.refusal, zeros);
-}
-
-// The one call of Load.
-fn lend_store(file: &[u8], store: &mut [u32], words: usize) -> Loaded {
-    let room = least(words, store.len());
-    load::load(file, &mut store[0..room])
-}
-
-// Load of a file to so many marked words.
-pub fn load(file: &[u8], store: &mut Store, words: usize, tally: &mut Tally) -> Loaded {
-    *store = [MARK; LIST_WORDS];
-    let a = lend_store(file, store, words);
-    judge_store(a, store, words, tally);
-    a
-}
-
-// The one call of Apply changes.
-fn lend_stores(old: &[u32], file: &[u8], new: &mut [u32], words: usize) -> Loaded {
-    let room = least(words, new.len());
-    changes::apply_changes(old, file, &mut new[0..room])
-}
-
-// Apply changes to an old store, to so many marked words.
-pub fn apply(old: &[u32], file: &[u8], new: &mut Store, words: usize, tally: &mut Tally) -> Loaded {
-    *new = [MARK; LIST_WORDS];
-    let a = lend_stores(old, file, new, words);
-    judge_store(a, new, words, tally);
     a
 }

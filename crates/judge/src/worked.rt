@@ -6,6 +6,7 @@ use judge_inputs::queries;
 use judge_inputs::queries::Query;
 use judge_matcher::lent::*;
 use judge_matcher::slices::part;
+use judge_matcher::stores::load_graph;
 use judge_matcher::tally::*;
 
 // A query of n vertices and m edges: the first whose numbers stand so far apart and that a query may have.
@@ -28,7 +29,7 @@ fn judge_over(q: &Query, places: usize, percent: usize, seed: &mut u64, tally: &
     let mut store = [0u32; LIST_WORDS];
     let mut copy = *q;
     graphs::draw(&mut g, places, 4, percent, seed);
-    let words = stream::load_graph(&g, &mut store, seed, tally);
+    let words = load_graph(&g, &mut store, seed, tally);
     let judged = stream::judge_query(&g, &mut copy, &mut store, words, seed, tally);
     judge(tally, WORKED, judged);
 }

@@ -7,7 +7,7 @@ use crate::random::*;
 
 pub type Query = [usize; WORDS];
 
-pub const WORDS: usize = 304;
+pub const WORDS: usize = 312;
 
 pub const VERTICES: usize = 0;
 
@@ -33,13 +33,16 @@ const NEXT_TO: usize = 8;
 
 const LIST: usize = 16;
 
-const CELLS: usize = 48;
+// A bit of this word for each place is 1 where a vertex has it.
+const TAKEN: usize = 48;
+
+const CELLS: usize = 56;
 
 const CELL_COUNT: usize = 256;
 
 const MAX_EDGES: usize = 24;
 
-pub const MAX_PAIRS: usize = 15;
+const MAX_PAIRS: usize = 15;
 
 // The set of one vertex.
 pub fn only(v: usize) -> usize {
@@ -102,19 +105,6 @@ pub fn has_pair(q: &Query, low: usize, high: usize) -> bool {
     (q[PAIR_BITS] >> (low % 8 * 8 + high % 8)) % 2 == 1
 }
 
-// A pair, 8 × low + high, that may not follow those that are there: its vertices are equal or unknown, or it does not ascend.
-pub fn is_bad_pair(q: &Query, pair: usize) -> bool {
-    let low = pair / 8 % 8;
-    let high = pair % 8;
-    let unknown = (q[VERTICES] <= low) | (q[VERTICES] <= high);
-    (low == high) | unknown | (q[PAIR_BITS] >> (pair % 64) != 0)
-}
-
-// The bits of a file before its pair count.
-pub fn pairs_at(q: &Query) -> usize {
-    9 + q[VERTICES] % 16 * 48 + q[EDGES] % 32 * 14
-}
-
 // The set of the vertices that an edge joins to v.
 pub fn next_to(q: &Query, v: usize) -> usize {
     q[NEXT_TO + v % 8]
@@ -173,25 +163,19 @@ fn try_edge(q: &mut Query, g: &Graph, row: &[usize; 8], edge: usize, any: bool) 
     false
 }
 
-// A vertex has the place.
-fn is_taken(row: &[usize; 8], k: usize) -> bool {
-    let half = (row[0] == k) | (row[1] == k) | (row[2] == k) | (row[3] == k);
-    half | (row[4] == k) | (row[5] == k) | (row[6] == k) | (row[7] == k)
-}
-
 // Gives the next vertex a place that none has yet, and an edge to one before it if the edge will do; or, if the edge may be any, any
 // place.
 fn join_vertex(q: &mut Query, g: &Graph, row: &mut [usize; 8], any: bool, seed: &mut u64) {
     let v = q[JOINED];
     let k = below(seed, g[graphs::PLACES]);
     let edge = random_edge(below(seed, v), v, seed);
-    row[v % 8] = graphs::NO_PLACE;
-    if is_taken(row, k) & !any {
-        return;
-    }
+    let free = (q[TAKEN] >> (k % 16)) % 2 == 0;
     row[v % 8] = k;
-    if try_edge(q, g, row, edge, any) {
-        q[JOINED] = add(v, 1);
+    if free | any {
+        if try_edge(q, g, row, edge, any) {
+            q[JOINED] = add(v, 1);
+            q[TAKEN] = q[TAKEN] | (1usize << (k % 16));
+        }
     }
 }
 
@@ -200,6 +184,7 @@ fn join_vertices(q: &mut Query, g: &Graph, row: &mut [usize; 8], any: bool, seed
     let n = q[VERTICES];
     let more = below(seed, 20);
     row[0] = below(seed, g[graphs::PLACES]);
+    q[TAKEN] = 1usize << (row[0] % 16);
     q[JOINED] = 1;
     for i in 0..128usize {
         if q[JOINED] < n {
@@ -222,16 +207,10 @@ fn draw_pair(q: &mut Query, row: &[usize; 8], turned: usize, seed: &mut u64) {
     }
 }
 
-// How often a pair is drawn: a few times, or, in an eighth, so often that there are up to the most.
-fn pair_draws(seed: &mut u64) -> usize {
-    let few = add(1, below(seed, 3));
-    let draws = [few, few, few, few, few, few, few, 48];
-    draws[below(seed, 8) % 8]
-}
-
-// Pairs in every second query; in a fourth they may contradict each other.
+// Pairs in every second query: a few, or, in an eighth, up to the most; in a fourth they may contradict each other.
 fn draw_pairs(q: &mut Query, row: &[usize; 8], seed: &mut u64) {
-    let count = pair_draws(seed);
+    let few = add(1, below(seed, 3));
+    let count = if chance(seed, 12) { 48 } else { few };
     let turned = if chance(seed, 25) { 50 } else { 0 };
     if chance(seed, 50) {
         for _ in 0..count % 64 {
@@ -273,7 +252,7 @@ pub fn random(q: &mut Query, g: &Graph, seed: &mut u64) {
     q[VERTICES] = random_vertices(g[graphs::PLACES], any, seed);
     q[LABELS] = random_labels(seed);
     q[RANGES] = random_ranges(q[VERTICES], seed);
-    let mut row = [graphs::NO_PLACE; 8];
+    let mut row = [0; 8];
     join_vertices(q, g, &mut row, any, seed);
     draw_pairs(q, &row, seed);
 }

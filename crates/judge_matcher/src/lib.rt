@@ -1,7 +1,9 @@
-// Of the judge, what needs nothing of the engine: the matcher, what the engine is lent, how it is damaged, and what is counted.
+// What the engine is held to: the matcher, marked words, and what Load and Apply changes leave; and the tally of what was compared.
+pub mod edits;
 pub mod files;
 pub mod lent;
 pub mod matcher;
 pub mod slices;
+pub mod stores;
 pub mod tally;
 pub mod ticks;

@@ -1,9 +1,9 @@
-// How often each kind of result was compared, and how often it differed.
+// How often each kind of result was compared, how often all of them differed, and what the stream had.
 use libc::STDOUT_FILENO;
 
 pub type Tally = [u64; WORDS];
 
-pub const WORDS: usize = 96;
+pub const WORDS: usize = 64;
 
 // The kinds of results.
 pub const WORKED: usize = 0;
@@ -32,27 +32,30 @@ pub const RECORDS: usize = 11;
 
 pub const CHANGED: usize = 12;
 
+// How many results differed.
+const DIFFERED: usize = 13;
+
 // What the stream had.
-pub const GRAPHS: usize = 32;
+pub const GRAPHS: usize = 14;
 
-pub const QUERIES: usize = 33;
+pub const QUERIES: usize = 15;
 
-pub const UNLIKE: usize = 34;
+pub const DATED: usize = 16;
 
-pub const FILLED: usize = 35;
+pub const PAIRED: usize = 17;
 
-pub const JOINED: usize = 36;
+pub const UNLIKE: usize = 18;
 
-pub const SAVED: usize = 37;
+pub const FILLED: usize = 19;
 
-pub const ROWS: usize = 38;
+pub const JOINED: usize = 20;
 
-pub const DATED: usize = 39;
+pub const SAVED: usize = 21;
 
-pub const PAIRED: usize = 40;
+pub const ROWS: usize = 22;
 
-// How often the engine gave each refusal.
-const REFUSALS: usize = 64;
+// How often the engine gave each refusal, from this word on.
+const REFUSALS: usize = 32;
 
 // Counts so many more of something.
 pub fn count(tally: &mut Tally, at: usize, more: u64) {
@@ -66,11 +69,11 @@ fn print_count(name: &[u8], value: u64) {
 
 // Counts a comparison of a kind, and prints the query's number and the kind's where it differed.
 pub fn judge(tally: &mut Tally, kind: usize, same: bool) {
-    count(tally, kind % 16 * 2, 1);
+    count(tally, kind, 1);
     if same {
         return;
     }
-    count(tally, kind % 16 * 2 + 1, 1);
+    count(tally, DIFFERED, 1);
     print_count(b"differs: query ", tally[QUERIES]);
     print_count(b" kind ", kind as u64);
     io::write_all(STDOUT_FILENO, b"\n");
@@ -82,64 +85,51 @@ pub fn judge_refusal(tally: &mut Tally, refusal: u32, zeros: bool) {
     judge(tally, REFUSED, (refusal == 0) | zeros);
 }
 
-fn print_kind(name: &[u8], tally: &Tally, kind: usize) {
-    io::write_all(STDOUT_FILENO, name);
-    print_count(b" compared ", tally[kind % 16 * 2]);
-    print_count(b" differed ", tally[kind % 16 * 2 + 1]);
-    io::write_all(STDOUT_FILENO, b"\n");
-}
-
-fn print_rows(tally: &Tally) {
-    print_kind(b"worked cases", tally, WORKED);
-    print_kind(b"graphs and queries read", tally, READ);
-    print_kind(b"rows against the matcher", tally, MATCHED);
-    print_kind(b"two plans of a query", tally, PAIRS);
-    print_kind(b"cache on against off", tally, CACHE);
-    print_kind(b"changes against loading, and back", tally, CHANGED);
-}
-
-fn print_words(tally: &Tally) {
-    print_kind(b"scratch lengths around the need", tally, SCRATCH);
-    print_kind(b"list of its rows and a word short", tally, LIST);
-    print_kind(b"words and records untouched", tally, UNTOUCHED);
-    print_kind(b"scratch cleared", tally, CLEARED);
-    print_kind(b"records that add up, and one short", tally, RECORDS);
-    print_kind(b"refused with zeros", tally, REFUSED);
-    print_kind(b"damaged files and stores", tally, DAMAGED);
-}
-
-fn print_stream(tally: &Tally) {
-    print_count(b"graphs ", tally[GRAPHS]);
-    print_count(b", queries ", tally[QUERIES]);
-    print_count(b", with matches and a range of days ", tally[DATED]);
-    print_count(b", with matches and pairs ", tally[PAIRED]);
-}
-
-fn print_plans(tally: &Tally) {
-    print_count(b", pairs of unlike plans ", tally[UNLIKE]);
-    print_count(b", plans with rows ", tally[FILLED]);
-    print_count(b", with joined rows ", tally[JOINED]);
-    print_count(b", where the cache saved ", tally[SAVED]);
-    print_count(b", rows ", tally[ROWS]);
-}
-
-fn print_refusal(tally: &Tally, k: usize) {
-    print_count(b" ", k as u64);
-    print_count(b":", tally[REFUSALS + k % 32]);
-}
-
-fn print_refusals(tally: &Tally) {
-    io::write_all(STDOUT_FILENO, b"\nrefusals");
-    for k in 1..30usize {
-        print_refusal(tally, k);
+// Prints what some words of the tally count, and under it those words.
+fn print_counts(names: &[u8], tally: &Tally, from: usize, to: usize) {
+    io::write_all(STDOUT_FILENO, names);
+    for i in from..to {
+        print_count(b" ", tally[i % WORDS]);
     }
     io::write_all(STDOUT_FILENO, b"\n");
 }
 
 pub fn print(tally: &Tally) {
-    print_rows(tally);
-    print_words(tally);
-    print_stream(tally);
-    print_plans(tally);
-    print_refusals(tally);
+    print_counts(
+        b"compared: worked cases, graphs and queries read, rows against the matcher, two plans of a query, cache on against off\n",
+        tally,
+        WORKED,
+        SCRATCH,
+    );
+    print_counts(
+        b"compared: scratch lengths around the need, list of its rows and a word short, words and records untouched, scratch cleared\n",
+        tally,
+        SCRATCH,
+        REFUSED,
+    );
+    print_counts(
+        b"compared: refused with zeros, damaged files and stores, records that add up and one short, changes against loading and back\n",
+        tally,
+        REFUSED,
+        DIFFERED,
+    );
+    print_counts(b"differed in all\n", tally, DIFFERED, GRAPHS);
+    print_counts(
+        b"graphs, queries, those with matches and a range of days, with matches and pairs, pairs of unlike plans\n",
+        tally,
+        GRAPHS,
+        FILLED,
+    );
+    print_counts(
+        b"plans with rows, with joined rows, where the cache saved, rows\n",
+        tally,
+        FILLED,
+        ROWS + 1,
+    );
+    print_counts(
+        b"refused with 1 to 29\n",
+        tally,
+        REFUSALS + 1,
+        REFUSALS + 30,
+    );
 }

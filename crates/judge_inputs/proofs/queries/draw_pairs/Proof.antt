@@ -6,7 +6,7 @@ use Rattle.judge_inputs.proofs.queries.draw_pairs.Tie as tie
 
 pub draw-pairs-spec : {M : Type 1} → statement M
 draw-pairs-spec = tie.close (tie.spec
-    (λ q₀ row seed₀ count turned counter₀ end q seed counter. Unit {0})
-    (λ q₀ row seed₀ count turned counter₀ end q seed counter. end - counter)
+    (λ q₀ row seed₀ few count turned counter₀ end q seed counter. Unit {0})
+    (λ q₀ row seed₀ few count turned counter₀ end q seed counter. end - counter)
     (search needs) (search needs) (search needs) (search needs) (search needs) (search needs) (search needs) (search needs)
-    (search needs) (search needs))
+    (search needs) (search needs) (search needs) (search needs))

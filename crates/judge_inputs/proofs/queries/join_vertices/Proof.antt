@@ -10,4 +10,4 @@ join-vertices-spec = tie.close (tie.spec
     (λ q₀ g row₀ any seed₀ n more i₀ q row seed i. 128 - i)
     (search needs) (search needs) (search needs) (search needs) (search needs) (search needs) (search needs) (search needs)
     (search needs) (search needs) (search needs) (search needs) (search needs) (search needs) (search needs) (search needs)
-    (search needs) (search needs))
+    (search needs) (search needs) (search needs) (search needs) (search needs))
