@@ -2,7 +2,7 @@
 use mathlib.Core.Path.{_≡_, refl, sym, _∙_, ap}
 use mathlib.Core.Bool.{true, false, not}
 use mathlib.Core.List.{List, map, map-map}
-use Prim.Native.Nat.{ℕ, zero, suc, _+_, _*_, _≤_, _<_}
+use Prim.Native.Nat.{ℕ, zero, suc, _+_, _≤_, _<_}
 use native.Mathlib.Omega.{arith}
 use lib.Dec.{ltb}
 use lib.ListN.{length, length-map}
@@ -14,7 +14,7 @@ use Rattle.lists.proofs.All.{length-range, all-range, all-at}
 use Rattle.lists.proofs.Count.{all-map}
 use Rattle.lists.proofs.Faults.{first-head, first-tail, first-cons, first-each, each-first, refuse-zero, zero-refuse}
 use Rattle.lists.proofs.Maps.{ascending-image, image-ascending}
-use Rattle.packed.specs.Field.{fieldAt, fillSet}
+use Rattle.packed.specs.Field.{fillSet}
 use Rattle.packed.proofs.Laws.{field-lt}
 use Rattle.graph.specs.Graph.{forward, key}
 use Rattle.graph.specs.File.{graphOf, graphFault, vertexCount, edgeCount, vertexStart, labelIn, dayIn, edgeStart, edgeIn, fileSize, badEdge, ascends, edgeFault}

@@ -30,7 +30,7 @@ fn judge_over(q: &Query, places: usize, percent: usize, seed: &mut u64, tally: &
     let mut copy = *q;
     graphs::draw(&mut g, places, 4, percent, seed);
     let words = load_graph(&g, &mut store, seed, tally);
-    let judged = stream::judge_query(&g, &mut copy, &mut store, words, seed, tally);
+    let judged = stream::judge_query(&g, &mut copy, &store, words, seed, tally);
     judge(tally, WORKED, judged);
 }
 

@@ -96,16 +96,21 @@ fn is_finished(p: &Plan, q: &Query) -> bool {
     (p[DEPTH] == 1) & (add(p[SETS], 1) == 1usize << (q[queries::VERTICES] % 16))
 }
 
-// Random operators until the plan is finished. It starts again after as many steps as a plan has operators at most, and in the
-// second half a plan has one scan.
+// Step i: one more operator, on an empty plan after as many steps as a plan has operators at most; answers whether it is finished. From
+// step 500 on a plan has one scan.
+fn step_on(p: &mut Plan, q: &Query, i: usize, scans: usize, seed: &mut u64) -> bool {
+    if i % MAX_OPERATORS == 0 {
+        *p = [0; WORDS];
+    }
+    step(p, q, if i < 500 { scans } else { 0 }, seed);
+    is_finished(p, q)
+}
+
+// Random operators until the plan is finished.
 fn make(p: &mut Plan, q: &Query, seed: &mut u64) {
     let scans = add(10, below(seed, 60));
     for i in 0..1000usize {
-        if i % MAX_OPERATORS == 0 {
-            *p = [0; WORDS];
-        }
-        step(p, q, if i < 500 { scans } else { 0 }, seed);
-        if is_finished(p, q) {
+        if step_on(p, q, i, scans, seed) {
             return;
         }
     }

@@ -110,19 +110,29 @@ pub fn next_to(q: &Query, v: usize) -> usize {
     q[NEXT_TO + v % 8]
 }
 
-// Adds an edge, unless it joins a vertex to itself, leads outside the query, is there, or is one too many.
-pub fn put_edge(q: &mut Query, edge: usize) {
+// A query may get the edge: it joins two of its vertices, is not there, and is not one too many.
+fn may_get(q: &Query, edge: usize) -> bool {
     let s = source(edge);
     let t = target(edge);
-    let cell = CELLS + edge % CELL_COUNT;
     let outside = (q[VERTICES] <= s) | (q[VERTICES] <= t);
-    if (s == t) | outside | (q[cell] == 1) | (MAX_EDGES <= q[EDGES]) {
-        return;
+    let there = q[CELLS + edge % CELL_COUNT] == 1;
+    !((s == t) | outside | there | (MAX_EDGES <= q[EDGES]))
+}
+
+// Counts b as next to a.
+fn put_next_to(q: &mut Query, a: usize, b: usize) {
+    let at = NEXT_TO + a % 8;
+    q[at] = q[at] | only(b);
+}
+
+// Adds an edge, if the query may get it.
+pub fn put_edge(q: &mut Query, edge: usize) {
+    if may_get(q, edge) {
+        q[CELLS + edge % CELL_COUNT] = 1;
+        q[EDGES] = add(q[EDGES], 1);
+        put_next_to(q, source(edge), target(edge));
+        put_next_to(q, target(edge), source(edge));
     }
-    q[cell] = 1;
-    q[EDGES] = add(q[EDGES], 1);
-    q[NEXT_TO + s % 8] = q[NEXT_TO + s % 8] | only(t);
-    q[NEXT_TO + t % 8] = q[NEXT_TO + t % 8] | only(s);
 }
 
 // Adds a pair, unless its vertices are equal, or it is there or one too many.
@@ -179,20 +189,25 @@ fn join_vertex(q: &mut Query, g: &Graph, row: &mut [usize; 8], any: bool, seed: 
     }
 }
 
-// Joins all vertices, by an edge that may be any in every sixteenth step at least; then adds edges in up to a fifth of the steps.
-fn join_vertices(q: &mut Query, g: &Graph, row: &mut [usize; 8], any: bool, seed: &mut u64) {
+// Joins the next vertex; or, where all are joined, adds an edge so many times of a hundred.
+fn grow(q: &mut Query, g: &Graph, row: &mut [usize; 8], any: bool, more: usize, seed: &mut u64) {
     let n = q[VERTICES];
+    if q[JOINED] < n {
+        join_vertex(q, g, row, any, seed);
+    } else if chance(seed, more) {
+        let edge = random_edge(below(seed, n), below(seed, n), seed);
+        try_edge(q, g, row, edge, any);
+    }
+}
+
+// Joins all vertices, then adds edges in up to a fifth of the steps. In every sixteenth step an edge may be any.
+fn join_vertices(q: &mut Query, g: &Graph, row: &mut [usize; 8], any: bool, seed: &mut u64) {
     let more = below(seed, 20);
     row[0] = below(seed, g[graphs::PLACES]);
     q[TAKEN] = 1usize << (row[0] % 16);
     q[JOINED] = 1;
     for i in 0..128usize {
-        if q[JOINED] < n {
-            join_vertex(q, g, row, any | (i % 16 == 15), seed);
-        } else if chance(seed, more) {
-            let edge = random_edge(below(seed, n), below(seed, n), seed);
-            try_edge(q, g, row, edge, any);
-        }
+        grow(q, g, row, any | (i % 16 == 15), more, seed);
     }
 }
 

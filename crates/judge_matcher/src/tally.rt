@@ -108,7 +108,7 @@ pub fn print(tally: &Tally) {
         REFUSED,
     );
     print_counts(
-        b"compared: refused with zeros, damaged files and stores, records that add up and one short, changes against loading and back\n",
+        b"compared: refused with zeros, damaged graph and change files, records that add up and one short, changes against loading and back\n",
         tally,
         REFUSED,
         DIFFERED,

@@ -4,14 +4,14 @@ use mathlib.Core.Path.{_≡_, refl, sym, _∙_}
 use mathlib.Core.Bool.{Bool, true, false}
 use mathlib.Core.List.{List}
 use Prim.Native.Nat.{ℕ, zero, suc, _+_, _-_, _*_, _/_, _%_, _≤_, _<_}
-use native.Mathlib.Nat.{le-refl, mod-lt, mod-eq-of-lt, zero-lt-suc}
+use native.Mathlib.Nat.{le-refl, mod-lt, zero-lt-suc}
 use native.Mathlib.Omega.{arith}
 use borrow.Author.Tests.{ltb-true, ltb-false}
 use lib.Dec.{ltb}
 use lib.ListN.{length, getD, List·getD-eq-default}
 use Rattle.packed.specs.Field.{bitAt, fieldAt, bytesFor, fillSet}
 use Rattle.packed.specs.Encode.{number, bitIn, bytesOf}
-use Rattle.packed.proofs.Number.{number-ext, number-lt, number-digit}
+use Rattle.packed.proofs.Number.{number-ext, number-digit}
 use Rattle.packed.proofs.Laws.{field-number}
 use Rattle.packed.proofs.Bytes.{length-bytesBy, byte-bytesBy}
 
@@ -43,10 +43,6 @@ byte-bytesOf bits i = go (ltb i (bytesFor (length bits))) refl
     go false e =
         List·getD-eq-default (bytesOf bits) 0 (rw length-bytesOf (ltb-false _ _ e)) ∙ sym (number-past bits (8 * i) 8 (omega (arith, ltb-false)))
 
--- Each byte is below 256.
-pub bytesOf-lt : (bits : List ℕ) (i : ℕ) → getD (bytesOf bits) i 0 < 256
-bytesOf-lt bits i = rw byte-bytesOf (number-lt (bitIn bits) (bitIn-lt bits) (8 * i) 8)
-
 -- The bits of the bytes are the bits.
 pub bit-bytesOf : (bits : List ℕ) (i : ℕ) → bitAt (bytesOf bits) i ≡ bitIn bits i
 unfolding bitAt
@@ -54,10 +50,6 @@ bit-bytesOf bits i =
     let bits8 : i % 8 + 1 + (7 - i % 8) ≡ 8 = omega arith in
     let from : 8 * (i / 8) + i % 8 ≡ i = omega arith in
     rw byte-bytesOf (rw (bits8, from) at (number-digit (bitIn bits) (bitIn-lt bits) (8 * (i / 8)) (i % 8) (7 - i % 8)))
-
--- Where the list holds a 0 or a 1, that is the bit.
-pub bit-given : (bits : List ℕ) (i : ℕ) → getD bits i 0 < 2 → bitAt (bytesOf bits) i ≡ getD bits i 0
-bit-given bits i h = bit-bytesOf bits i ∙ mod-eq-of-lt h
 
 -- A field of the bytes is the number of its bits.
 pub field-bytesOf : (bits : List ℕ) (at w : ℕ) → fieldAt (bytesOf bits) at w ≡ number (bitIn bits) at w

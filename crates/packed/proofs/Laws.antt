@@ -8,7 +8,7 @@ use native.Mathlib.Omega.{arith}
 use lib.ListN.{getD}
 use Rattle.packed.specs.Field.{bitAt, fieldAt}
 use Rattle.packed.specs.Encode.{number}
-use Rattle.packed.proofs.Number.{number-add, number-is, number-lt, number-high, number-low, number-part}
+use Rattle.packed.proofs.Number.{number-add, number-is, number-lt, number-part}
 
 -- A bit is 0 or 1.
 pub bit-lt : (s : List ℕ) (i : ℕ) → bitAt s i < 2
@@ -28,14 +28,6 @@ field-lt s at w = rw field-number (number-lt (bitAt s) (bit-lt s) at w)
 -- A field of a + b bits: its first a bits, then its last b.
 pub field-add : (s : List ℕ) (at a b : ℕ) → fieldAt s at (a + b) ≡ fieldAt s at a * 2 ^ b + fieldAt s (at + a) b
 field-add s at a b = simp field-number (number-add (bitAt s) at a b)
-
--- The first a bits of a field, as its quotient.
-pub field-high : (s : List ℕ) (at a b : ℕ) → fieldAt s at (a + b) / 2 ^ b ≡ fieldAt s at a
-field-high s at a b = simp field-number (number-high (bitAt s) (bit-lt s) at a b)
-
--- The last b bits of a field, as its remainder.
-pub field-low : (s : List ℕ) (at a b : ℕ) → fieldAt s at (a + b) % 2 ^ b ≡ fieldAt s (at + a) b
-field-low s at a b = simp field-number (number-low (bitAt s) (bit-lt s) at a b)
 
 -- A part of a field is a field: w bits with o bits before them and k after.
 pub field-part : (s : List ℕ) (at o w k : ℕ) → fieldAt s at (o + w + k) / 2 ^ k % 2 ^ w ≡ fieldAt s (at + o) w

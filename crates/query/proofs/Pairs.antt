@@ -1,5 +1,5 @@
 -- Laws of the pairs of a vertex, as the code gathers them from the first pairs of a struct. Assumes nothing.
-use mathlib.Core.Path.{_≡_, refl, sym, _∙_, ap, ap₂}
+use mathlib.Core.Path.{_≡_, refl, sym, _∙_, ap₂}
 use mathlib.Core.Bool.{Bool, true, false, _&&_, _||_, and-true, and-false}
 use mathlib.Core.List.{map}
 use Prim.Native.Nat.{ℕ, _+_}

@@ -1,6 +1,2 @@
--- The whole run of an accepted plan lists every match once.
-pub mod Turns
-pub mod Running
-pub mod Recording
-pub mod Ended
+-- The whole run lists every match once.
 pub mod Answers

@@ -1,20 +1,19 @@
 -- Laws of `firstFrom`, the first index from `from` on whose word is not below x, in an ascending list. Assumes nothing.
-use mathlib.Core.Path.{_≡_, refl, sym, _∙_, ap, ap₂}
+use mathlib.Core.Path.{_≡_, sym, _∙_, ap, ap₂}
 use mathlib.Core.Bool.{Bool, true, false, _&&_}
 use mathlib.Core.List.{List}
 use Prim.Native.Nat.{ℕ, _+_, _-_, _≤_, _<_, zero-le}
-use native.Mathlib.Nat.{add-sub-of-le, add-sub-cancel-left, zero-add}
+use native.Mathlib.Nat.{add-sub-of-le}
 use native.Mathlib.Omega.{arith}
-use lib.Dec.{eqb, leb, ltb}
+use lib.Dec.{eqb, ltb}
 use lib.ListN.{length, getD, take, drop, length-drop}
-use lib.Seq.{getD-take, getD-drop, drop-drop, length-take-le}
+use lib.Seq.{getD-take, getD-drop, length-take-le}
 use borrow.Author.Tests.{ltb-true, lt-ltb, eqb-true, eq-eqb}
-use Rattle.lists.specs.Lists.{any, keep, ascending}
+use Rattle.lists.specs.Lists.{any, ascending}
 use Rattle.lists.proofs.Tests.{iff, fails, and-l, and-r, and-both}
-use Rattle.lists.proofs.All.{keep-keep}
 use Rattle.lists.proofs.Ascending.{ascending-drop, ascending-part}
 use Rattle.search.specs.inner.Search.{below, firstFrom}
-use Rattle.search.proofs.Below.{below-le, below-past, below-upto, take-below, drop-below, any-below}
+use Rattle.search.proofs.Below.{below-le, below-past, below-upto, any-below}
 
 -- It is an index from `from` on, or the length.
 pub first-from : (s : List ℕ) (from x : ℕ) → from ≤ firstFrom s from x
@@ -27,11 +26,6 @@ first-length s from x h = omega (arith, below-le x (drop from s), length-drop fr
 
 pub first-within : (s : List ℕ) (from x : ℕ) {r : ℕ} → r ≡ firstFrom s from x → from ≤ length s → (from ≤ r) × (r ≤ length s)
 first-within s from x e h = omega (arith, first-from s from x, first-length s from x h)
-
--- In the rest of the list it is the same.
-pub first-rest : (s : List ℕ) (from x : ℕ) → from + firstFrom (drop from s) 0 x ≡ firstFrom s from x
-unfolding firstFrom
-first-rest s from x = ap (λ (n : ℕ). from + n) (zero-add (below x (drop from s)))
 
 -- Words and tests, counted from `from`.
 getD-from : (s : List ℕ) (from i : ℕ) → from ≤ i → getD (drop from s) (i - from) 0 ≡ getD s i 0
@@ -119,19 +113,6 @@ module _ (s : List ℕ) (up : ascending s ≡ true) where
       let at : (ltb r (length s) && eqb (getD s r 0) x) ≡ true = rw e (sym (first-any from x h) ∙ i) in
       f (ltb-true r (length s) (and-l (ltb r (length s)) (eqb (getD s r 0) x) at)) (eqb-true (getD s r 0) x (and-r (ltb r (length s)) (eqb (getD s r 0) x) at)))
 
-  -- It cuts the words from `from` on: those below x come before it, the others from it on.
-  pub first-take : (from x : ℕ) → take (firstFrom s from x - from) (drop from s) ≡ keep (λ (w : ℕ). ltb w x) (drop from s)
-  unfolding firstFrom
-  first-take from x = rw (add-sub-cancel-left from (below x (drop from s))) (take-below x (drop from s) (ascending-drop from s up))
-
-  pub first-front : (x : ℕ) → take (firstFrom s 0 x) s ≡ keep (λ (w : ℕ). ltb w x) s
-  unfolding firstFrom
-  first-front x = rw zero-add (take-below x s up)
-
-  pub first-drop : (from x : ℕ) → drop (firstFrom s from x) s ≡ keep (λ (w : ℕ). leb x w) (drop from s)
-  unfolding firstFrom
-  first-drop from x = sym (drop-drop (below x (drop from s)) from s) ∙ drop-below x (drop from s) (ascending-drop from s up)
-
 -- In a part that does not end before it, it is the same.
 pub first-part : (s : List ℕ) → ascending s ≡ true → (from n x : ℕ) → from + n ≤ length s → firstFrom s from x ≤ from + n
     → from + firstFrom (take n (drop from s)) 0 x ≡ firstFrom s from x
@@ -147,15 +128,3 @@ first-part s up from n x h l =
   where
     word : (i : ℕ) → i < n → getD (take n (drop from s)) i 0 ≡ getD s (from + i) 0
     word i q = rw (getD-take, getD-drop)
-
--- The words from x up to y stand between where a search for x ends and where one for y, from there on, does.
-pub first-between : (s : List ℕ) → ascending s ≡ true → (from x y : ℕ) {a b : ℕ} → a ≡ firstFrom s from x → b ≡ firstFrom s a y
-    → take (b - a) (drop a s) ≡ keep (λ (w : ℕ). leb x w && ltb w y) (drop from s)
-first-between s up from x y {a} ea eb =
-    let rest : drop a s ≡ keep (leb x) (drop from s) = rw ea (first-drop s up from x) in
-    rw eb (first-take s up a y) ∙ ap (keep (λ (w : ℕ). ltb w y)) rest ∙ keep-keep (λ (w : ℕ). ltb w y) (leb x) (drop from s)
-
--- For x ≤ y both may be searched for from the same index.
-pub first-cut : (s : List ℕ) → ascending s ≡ true → (from x y : ℕ) → from ≤ length s → x ≤ y
-    → take (firstFrom s from y - firstFrom s from x) (drop (firstFrom s from x) s) ≡ keep (λ (w : ℕ). leb x w && ltb w y) (drop from s)
-first-cut s up from x y h l = first-between s up from x y refl (sym (first-move s up from x y h l))

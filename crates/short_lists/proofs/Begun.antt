@@ -1,23 +1,18 @@
 -- How many lists begin before an entry tells its vertex. Assumes nothing.
-use mathlib.Core.Path.{_≡_, refl, sym, _∙_, ap}
+use mathlib.Core.Path.{_≡_, refl, _∙_, ap}
 use mathlib.Core.Bool.{Bool, true, false}
-use mathlib.Core.List.{List, [], _∷_, _++_, map}
-use Prim.Native.Nat.{ℕ, zero, suc, _+_, _-_, _≤_, _<_, zero-le}
+use mathlib.Core.List.{List}
+use Prim.Native.Nat.{ℕ, zero, suc, _-_, _≤_, _<_, zero-le}
 use native.Mathlib.Nat.{not-suc-le-zero}
 use native.Mathlib.Omega.{arith}
-use lib.Dec.{eqb, leb, ltb}
-use lib.ListN.{length, getD, set, replicate, length-set, length-replicate, getD-replicate}
-use lib.Seq.{ext-getD, getD-set-same, getD-set-other}
-use borrow.Author.Tests.{ltb-true, lt-ltb, le-ltb, ltb-false}
-use Rattle.lists.specs.Lists.{bit, range, all, count}
-use Rattle.lists.proofs.Tests.{clash, iff}
-use Rattle.lists.proofs.All.{length-range, all-range}
-use Rattle.lists.proofs.Count.{count-le, count-snoc, count-all, count-under}
-use Rattle.lists.proofs.Maps.{image-ext, getD-image, length-image}
-use Rattle.counting_sort.specs.inner.Groups.{groupStart, groupSizes, groupEnds}
-use Rattle.counting_sort.proofs.Counting.{Tallied, length-sizes, size-at, set-image}
+use lib.Dec.{ltb}
+use lib.ListN.{length, getD}
+use borrow.Author.Tests.{ltb-true, lt-ltb, ltb-false}
+use Rattle.lists.specs.Lists.{range, count}
+use Rattle.lists.proofs.Tests.{clash}
+use Rattle.lists.proofs.Count.{count-snoc}
 use Rattle.short_lists.specs.inner.Check.{offsetsFit}
-use Rattle.short_lists.specs.inner.Begun.{begun, begunIn, Begins, startIn}
+use Rattle.short_lists.specs.inner.Begun.{begun}
 use Rattle.short_lists.proofs.Offsets.{Rising, fit-rising}
 
 -- A test that, once failed, fails from there on is passed by the first c numbers.

@@ -1,24 +1,23 @@
 -- The lists that begin in a block of entries, counted by Load's counting pass. Assumes nothing.
 use mathlib.Core.Path.{_≡_, refl, sym, _∙_, ap, fun-ext}
 use mathlib.Core.Bool.{Bool, true, false}
-use mathlib.Core.List.{List, [], _∷_, _++_, map}
-use Prim.Native.Nat.{ℕ, zero, suc, _+_, _-_, _≤_, _<_, zero-le}
-use native.Mathlib.Nat.{not-suc-le-zero}
+use mathlib.Core.List.{List, [], _∷_}
+use Prim.Native.Nat.{ℕ, zero, suc, _+_, _-_, _≤_, _<_}
 use native.Mathlib.Omega.{arith}
 use lib.Dec.{eqb, ltb}
 use lib.ListN.{length, getD, set, replicate, length-set, length-replicate, getD-replicate}
-use lib.Seq.{ext-getD, getD-set-same, getD-set-other}
+use lib.Seq.{ext-getD, getD-set-other}
 use borrow.Author.Tests.{ltb-true, lt-ltb, ltb-false, eq-eqb, ne-eqb, eqb-true, eqb-false}
 use Rattle.lists.specs.Lists.{range, all, count, total}
 use Rattle.lists.proofs.Tests.{clash, iff}
 use Rattle.lists.proofs.All.{length-range, all-range}
-use Rattle.lists.proofs.Count.{count-le, count-snoc, count-all, count-under, count-passes}
-use Rattle.lists.proofs.Maps.{image-ext, length-image}
-use Rattle.counting_sort.specs.inner.Groups.{groupStart, groupSizes, groupEnds, runningSums}
+use Rattle.lists.proofs.Count.{count-snoc, count-all, count-passes}
+use Rattle.lists.proofs.Maps.{image-ext}
+use Rattle.counting_sort.specs.inner.Groups.{groupSizes, groupEnds, runningSums}
 use Rattle.counting_sort.proofs.Counting.{Tallied, length-sizes, size-at, sums-ends, sums-fit}
 use Rattle.short_lists.specs.inner.Check.{offsetsFit}
 use Rattle.short_lists.specs.inner.Begun.{begun, begunIn, Begins, startIn}
-use Rattle.short_lists.proofs.Begun.{Offsets, begun-split, begins-before, begins-after, begun-few, rises-on, last-is}
+use Rattle.short_lists.proofs.Begun.{Offsets, begins-before, begins-after, begun-few, rises-on, last-is}
 
 some-offset : (m : ℕ) (starts : List ℕ) → offsetsFit m starts ≡ true → 0 < length starts
 unfolding offsetsFit

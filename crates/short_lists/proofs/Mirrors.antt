@@ -15,7 +15,7 @@ use Rattle.lists.proofs.All.{all-at, all-range, all-getD, getD-all}
 use Rattle.lists.proofs.Maps.{getD-image, length-image}
 use Rattle.adjacency.specs.inner.Side.{listOn}
 use Rattle.adjacency.specs.inner.Portion.{member}
-use Rattle.short_lists.specs.inner.Check.{unless, mirror, offsetsOn, listFits, sideFits, listMirrored, sideMirrored, GoodSide}
+use Rattle.short_lists.specs.inner.Check.{unless, mirror, offsetsOn, listFits, sideFits, listMirrored, sideMirrored}
 use Rattle.short_lists.specs.inner.Begun.{begun, begunIn, Begins, EntryFits, BlockFits, Flat, entryMirrored, entriesMirrored, Sides}
 use Rattle.short_lists.proofs.Loops.{answer-hands, answer-passes, passes}
 use Rattle.short_lists.proofs.Begun.{Offsets, begun-some, begun-few, begun-none, its-start, its-end, its-vertex, rises-on, last-is}

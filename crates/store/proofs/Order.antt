@@ -10,10 +10,10 @@ use native.Mathlib.Omega.{arith}
 use mathlib.Core.Logic.{_⊎_, inl, inr}
 use lib.Dec.{eqb, leb, ltb}
 use lib.ListN.{length, getD, take, drop, length-drop, drop-of-length-le}
-use lib.Seq.{take-suc, drop-cons, take-all, getD-take, getD-drop, length-take-le}
-use borrow.Author.Tests.{eq-eqb, ne-eqb, eqb-true, ltb-true, ltb-false, lt-ltb, le-ltb, leb-true, leb-false, le-leb, lt-leb}
+use lib.Seq.{take-suc, drop-cons, getD-take, getD-drop, length-take-le}
+use borrow.Author.Tests.{eq-eqb, ne-eqb, eqb-true, ltb-false, lt-ltb, le-ltb, leb-true, leb-false, lt-leb}
 use Rattle.lists.specs.Lists.{bit, range, all, count, total, ascendsFrom, ascending}
-use Rattle.lists.proofs.Tests.{iff, clash, and-l, and-r, and-both}
+use Rattle.lists.proofs.Tests.{iff, and-l, and-r, and-both}
 use Rattle.lists.proofs.All.{all-and, all-follows}
 use Rattle.lists.proofs.Count.{count-snoc, total-append, total-suc, all-flatMap}
 use Rattle.lists.proofs.Maps.{flatMap-suc}

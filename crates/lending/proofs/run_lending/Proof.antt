@@ -2,7 +2,7 @@
 use mathlib.Core.Path.{_≡_, sym, _∙_}
 use mathlib.Core.Bool.{Bool}
 use mathlib.Core.List.{List}
-use Prim.Native.Nat.{ℕ, _≤_, _<_}
+use Prim.Native.Nat.{ℕ, _<_}
 use native.Mathlib.Omega.{arith}
 use lib.ListN.{length, take, drop, length-map, drop-of-length-le}
 use lib.Seq.{take-all}
@@ -10,8 +10,7 @@ use denote.Struct.Laws as LL
 use borrow.Author.Needs.{needs}
 use Rattle.execution.specs.declared.Record.{Record}
 use Rattle.execution.proofs.Record as R
-use Rattle.lending.specs.Lending.{lentIn, Fills}
-use Rattle.lending.specs.declared.Lending.{Lending}
+use Rattle.lending.specs.Lending.{Fills}
 use Rattle.lending.specs.declared.Filled.{Filled}
 use Rattle.lending.proofs.Lending as D
 use Rattle.lending.proofs.Lending.Laws as D′

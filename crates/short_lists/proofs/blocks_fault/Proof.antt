@@ -2,7 +2,6 @@
 use mathlib.Core.Path.{_≡_, sym, _∙_, ap}
 use Prim.Native.Nat.{_+_, _-_}
 use native.Mathlib.Omega.{arith}
-use borrow.Author.Needs.{needs}
 use lib.ListN.{length}
 use Rattle.short_lists.specs.inner.Begun.{Flat}
 use Rattle.short_lists.proofs.Mirrors.{Tested, tested-none, block-begins, block-fits, block-refuses, tested-more, tested-all, length-begun, few-begun}

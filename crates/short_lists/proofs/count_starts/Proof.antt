@@ -1,6 +1,5 @@
 -- `short_lists::count_starts` meets its contract: the lists of the vertices below v are counted. Assumes nothing.
 use mathlib.Core.Path.{refl, sym, _∙_, ap}
-use mathlib.Core.List.{List}
 use Prim.Native.Nat.{ℕ, _-_, _≤_, _<_}
 use native.Mathlib.Omega.{arith}
 use borrow.Author.Needs.{needs}

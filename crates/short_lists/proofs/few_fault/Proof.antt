@@ -1,13 +1,12 @@
 -- `short_lists::few_fault` meets its contract: every word of the list is looked at. Assumes nothing.
 use native.Mathlib.Omega.{arith}
-use mathlib.Core.Path.{_≡_, sym, _∙_}
 use Prim.Native.Nat.{_-_}
 use lib.Dec.{ltb}
 use lib.ListN.{length}
 use denote.Ref.{now}
 use Rattle.short_lists.proofs.Loops.{refused, passes}
 use Rattle.words.proofs.Zeros.{byte-le}
-use Rattle.short_lists.proofs.Few.{places-in, lacks-none, found, few-lacks, few-has}
+use Rattle.short_lists.proofs.Few.{places-in, lacks-none, few-lacks, few-has}
 use borrow.Author.Needs.{needs}
 use Rattle.short_lists.proofs.few_fault.Statement.{statement}
 use Rattle.short_lists.proofs.few_fault.Tie as tie

@@ -1,9 +1,8 @@
 -- `store::entry_faults` meets its contract: a bool as a number is 0 or 1. Assumes nothing.
-use Prim.Native.Nat.{_%_, _≤_}
+use Prim.Native.Nat.{_%_}
 use native.Mathlib.Omega.{arith}
 use mathlib.Core.Path.{refl}
 use lib.Dec.{leb, ltb}
-use Rattle.lists.specs.Lists.{bit}
 use Rattle.lists.proofs.Bits.{bit-le}
 use borrow.Author.Needs.{needs}
 use Rattle.store.proofs.entry_faults.Statement.{statement}

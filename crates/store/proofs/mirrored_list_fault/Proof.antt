@@ -1,6 +1,6 @@
 -- `store::mirrored_list_fault` meets its contract: the entries before i ascend up to `last`, fit, and have their mirrors.
 -- Assumes nothing.
-use Prim.Native.Nat.{ℕ, _+_, _-_, _%_, _<_}
+use Prim.Native.Nat.{ℕ, _-_, _%_, _<_}
 use native.Mathlib.Omega.{arith}
 use borrow.Author.Needs.{needs}
 use lib.ListN.{length, getD}

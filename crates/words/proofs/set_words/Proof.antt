@@ -1,6 +1,6 @@
 -- `words::set_words` meets its contract: where none of the words before i is set, they are 0. Assumes nothing.
 use mathlib.Core.Path.{_≡_}
-use Prim.Native.Nat.{ℕ, _-_, _≤_}
+use Prim.Native.Nat.{_-_, _≤_}
 use native.Mathlib.Omega.{arith}
 use lib.ListN.{length}
 use Rattle.words.proofs.Zeros.{ZerosIn, zeros-next, all-zeros}

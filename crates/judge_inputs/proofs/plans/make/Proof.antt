@@ -9,4 +9,4 @@ make-spec = tie.close (tie.spec
     (λ p₀ q seed₀ scans i₀ p seed i. Unit {0})
     (λ p₀ q seed₀ scans i₀ p seed i. 1000 - i)
     (search needs) (search needs) (search needs) (search needs) (search needs) (search needs) (search needs) (search needs)
-    (search needs) (search needs))
+    (search needs))

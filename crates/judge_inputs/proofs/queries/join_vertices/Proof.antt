@@ -6,8 +6,7 @@ use Rattle.judge_inputs.proofs.queries.join_vertices.Tie as tie
 
 pub join-vertices-spec : {M : Type 1} → statement M
 join-vertices-spec = tie.close (tie.spec
-    (λ q₀ g row₀ any seed₀ n more i₀ q row seed i. Unit {0})
-    (λ q₀ g row₀ any seed₀ n more i₀ q row seed i. 128 - i)
+    (λ q₀ g row₀ any seed₀ more i₀ q row seed i. Unit {0})
+    (λ q₀ g row₀ any seed₀ more i₀ q row seed i. 128 - i)
     (search needs) (search needs) (search needs) (search needs) (search needs) (search needs) (search needs) (search needs)
-    (search needs) (search needs) (search needs) (search needs) (search needs) (search needs) (search needs) (search needs)
-    (search needs) (search needs) (search needs) (search needs) (search needs))
+    (search needs) (search needs) (search needs) (search needs) (search needs) (search needs))
