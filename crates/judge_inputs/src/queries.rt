@@ -189,25 +189,33 @@ fn join_vertex(q: &mut Query, g: &Graph, row: &mut [usize; 8], any: bool, seed: 
     }
 }
 
-// Joins the next vertex; or, where all are joined, adds an edge so many times of a hundred.
-fn grow(q: &mut Query, g: &Graph, row: &mut [usize; 8], any: bool, more: usize, seed: &mut u64) {
+// Step i: joins the next vertex, in every sixteenth step by any edge; or, where all are joined, adds an edge so many times of a hundred.
+fn grow(
+    q: &mut Query,
+    g: &Graph,
+    row: &mut [usize; 8],
+    any: bool,
+    i: usize,
+    more: usize,
+    seed: &mut u64,
+) {
     let n = q[VERTICES];
     if q[JOINED] < n {
-        join_vertex(q, g, row, any, seed);
+        join_vertex(q, g, row, any | (i % 16 == 15), seed);
     } else if chance(seed, more) {
         let edge = random_edge(below(seed, n), below(seed, n), seed);
         try_edge(q, g, row, edge, any);
     }
 }
 
-// Joins all vertices, then adds edges in up to a fifth of the steps. In every sixteenth step an edge may be any.
+// Joins all vertices, then adds edges in up to a fifth of the steps.
 fn join_vertices(q: &mut Query, g: &Graph, row: &mut [usize; 8], any: bool, seed: &mut u64) {
     let more = below(seed, 20);
     row[0] = below(seed, g[graphs::PLACES]);
     q[TAKEN] = 1usize << (row[0] % 16);
     q[JOINED] = 1;
     for i in 0..128usize {
-        grow(q, g, row, any | (i % 16 == 15), more, seed);
+        grow(q, g, row, any, i, more, seed);
     }
 }
 
