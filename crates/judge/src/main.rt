@@ -8,7 +8,7 @@ mod worked;
 
 use judge_matcher::tally;
 
-const GRAPHS: usize = 1600;
+const GRAPHS: usize = 1800;
 
 const SEED: u64 = 88172645463325252;
 
