@@ -2,8 +2,8 @@
 //! p.bin if there is one, else by a drawn one.
 //!
 //!     cargo run --release --example changed -- ../examples/truss-swap
+use rizhavaan::{Buffers, Cache, Refusal, Store};
 use std::path::PathBuf;
-use trace::{Buffers, Cache, Refusal, Store};
 
 fn print(when: &str, store: &Store, query: &[u8], plan: Option<&[u8]>) -> Result<(), Refusal> {
     let mut buffers = Buffers::new();

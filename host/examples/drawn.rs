@@ -1,8 +1,8 @@
 //! Runs a pattern without a plan: draws one for the files g.bin and q.bin of a folder, and prints its bytes and the matches.
 //!
 //!     cargo run --release --example drawn -- ../examples/triangle
+use rizhavaan::{Buffers, Cache, Store};
 use std::path::PathBuf;
-use trace::{Buffers, Cache, Store};
 
 fn main() -> Result<(), Box<dyn std::error::Error>> {
     let folder = PathBuf::from(std::env::args().nth(1).ok_or("usage: drawn FOLDER")?);

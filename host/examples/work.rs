@@ -4,8 +4,8 @@
 //!     cargo run --release --example work -- ../examples/bowtie-bushy-join
 //!
 //! The folder has the three packed files of a hang, `g.bin`, `q.bin` and `p.bin`; `tools/pack` writes them.
+use rizhavaan::{Buffers, Cache, Matches, Store};
 use std::path::Path;
-use trace::{Buffers, Cache, Matches, Store};
 
 const WIDTH: u64 = 24;
 
