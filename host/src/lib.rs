@@ -67,7 +67,7 @@ pub use engine::{
     apply_changes_into, check_plan, draw_plan_into, load_into, run, Cache, Loaded, Run, MAX_DRAWN_BYTES, MAX_OPERATORS,
     MAX_WORDS,
 };
-pub use operator::{Operator, Work};
+pub use operator::{operators, Operator, Work};
 pub use refusal::Refusal;
 pub use store::{Buffers, Matches, Store};
 pub use sys::Record;

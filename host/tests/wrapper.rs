@@ -105,6 +105,8 @@ fn the_work_of_each_operator() {
         [(scan(2), 5, 0), (extend(0), 2, 13), (scan(2), 5, 0), (extend(3), 2, 13), (rizhavaan::Operator::Join, 1, 0)];
     let work = |(operator, rows, cost)| Work { operator, rows, cost };
     assert!(matches.work().eq(want.map(work)));
+    assert!(rizhavaan::operators(&query, &bushy).unwrap().eq(want.map(|(operator, _, _)| operator)));
+    assert_eq!(rizhavaan::operators(&query, &bushy[..1]).err(), Some(Refusal::PlanShort));
     assert_eq!(matches.work().map(|work| work.cost).sum::<u64>(), matches.cost);
     assert_eq!(records[5..], [MARK; 2]);
 
