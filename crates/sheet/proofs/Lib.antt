@@ -1,0 +1,3 @@
+-- Laws of decimal numbers, of the words of a list tested together, of lines and pages, and what the pages hold.
+pub mod Digits
+pub mod Numbers
