@@ -1,8 +1,8 @@
 // The sheet: one page of a list's rows as text, of 60 lines of 80 columns. `specs/` says what every byte is, when a page is refused and
 // what the pages hold together; `proofs/` has the laws.
+mod large;
 mod lines;
 mod number;
-mod words;
 
 use operators::Output;
 use query::Query;
@@ -65,7 +65,7 @@ fn rows_fault(list: &[u32], n: usize, rows: usize) -> u32
     if Output::MAX_WORDS < count {
         return 33;
     }
-    if words::any_large(&list[..count]) {
+    if large::any_large(&list[..count]) {
         return 33;
     }
     0

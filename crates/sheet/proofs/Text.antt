@@ -1,0 +1,61 @@
+-- Laws of blank text and of lines: what a part of them is, and what stands after a part was written. Assumes nothing.
+use mathlib.Core.Path.{_≡_, refl, sym, _∙_, ap, ap₂}
+use mathlib.Core.Bool.{Bool, true}
+use mathlib.Core.List.{List, [], _∷_, _++_, flatMap, append-assoc, append-nil}
+use Prim.Native.Nat.{ℕ, zero, suc, _+_, _-_, _*_, _^_, _≤_, _<_}
+use native.Mathlib.Omega.{arith}
+use native.Mathlib.Numerals.{add-one}
+use lib.Dec.{ltb}
+use lib.ListN.{length, getD, take, drop, replicate, length-append, length-replicate, getD-replicate, List·getD-append}
+use lib.Seq.{take-at, drop-at}
+use Rattle.sheet.specs.Decimal.{blank, lineFeed, decimal, aligned}
+use Rattle.sheet.specs.Page.{columns, numberColumns, field, line}
+use Rattle.sheet.specs.inner.Lines.{blanks, blankLines, Fitting}
+use Rattle.sheet.proofs.Digits.{decimal-width}
+
+-- A part of a text from `at` to `end`, lent and given back as another text.
+module _ (text done rest part : List ℕ) (at end : ℕ) (is : text ≡ done ++ rest) (long : length done ≡ at) where
+  pub lent : take (end - at) (drop at text) ≡ take (end - at) rest
+  lent = ap (λ (l : List ℕ). take (end - at) l) (ap (drop at) is ∙ drop-at done rest at long)
+
+  pub given-back : take at text ++ (part ++ drop (end - at) (drop at text)) ≡ done ++ (part ++ drop (end - at) rest)
+  given-back =
+      ap₂ (λ (a b : List ℕ). a ++ (part ++ drop (end - at) b)) (ap (take at) is ∙ take-at done rest at long) (ap (drop at) is ∙ drop-at done rest at long)
+
+-- A part of blanks.
+pub take-blanks : (m k : ℕ) → m ≤ k → take m (blanks k) ≡ blanks m
+take-blanks zero zero h = refl
+take-blanks zero (suc k) h = refl
+take-blanks (suc m) zero h = absurd (omega arith)
+take-blanks (suc m) (suc k) h = ap (λ (l : List ℕ). blank ∷ l) (take-blanks m k (omega arith))
+
+pub drop-blanks : (m k j : ℕ) → k ≡ m + j → drop m (blanks k) ≡ blanks j
+drop-blanks zero k j e = ap blanks (let s : k ≡ j = omega arith in s)
+drop-blanks (suc m) zero j e = absurd (omega arith)
+drop-blanks (suc m) (suc k) j e = drop-blanks m k j (omega arith)
+
+-- A number in its columns.
+pub length-field : (x : ℕ) → x < 10 ^ numberColumns → length (field x) ≡ numberColumns
+unfolding aligned
+length-field x h =
+    length-append (blanks (numberColumns - length (decimal x))) (decimal x)
+    ∙ (let e : length (blanks (numberColumns - length (decimal x))) ≡ numberColumns - length (decimal x) = length-replicate (numberColumns - length (decimal x)) blank in
+    omega (arith, decimal-width 7 x h))
+
+-- The blank line, byte by byte.
+pub blank-line : line [] ≡ blanks columns ++ (lineFeed ∷ [])
+unfolding line flatMap
+blank-line = refl
+
+pub length-blank-line : length (line []) ≡ columns + 1
+unfolding line flatMap
+length-blank-line = refl
+
+pub blank-at : (i : ℕ) → i < columns → getD (line []) i 0 ≡ blank
+unfolding line flatMap
+blank-at i h =
+    List·getD-append (blanks columns) (lineFeed ∷ []) 0 i (rw length-replicate h) ∙ getD-replicate columns i blank 0 h
+
+pub feed-at : getD (line []) columns 0 ≡ lineFeed
+unfolding line flatMap
+feed-at = refl
