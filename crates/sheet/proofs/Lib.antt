@@ -3,3 +3,4 @@ pub mod Digits
 pub mod Numbers
 pub mod Gathered
 pub mod Text
+pub mod Blanked

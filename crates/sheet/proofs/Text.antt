@@ -5,22 +5,24 @@ use mathlib.Core.List.{List, [], _∷_, _++_, flatMap, append-assoc, append-nil}
 use Prim.Native.Nat.{ℕ, zero, suc, _+_, _-_, _*_, _^_, _≤_, _<_}
 use native.Mathlib.Omega.{arith}
 use native.Mathlib.Numerals.{add-one}
+use borrow.Rule.Slice.PartMut.{putMid}
 use lib.Dec.{ltb}
-use lib.ListN.{length, getD, take, drop, replicate, length-append, length-replicate, getD-replicate, List·getD-append}
+use lib.ListN.{length, getD, take, drop, replicate, length-append, length-replicate, getD-replicate, replicate-append-replicate, List·getD-append}
 use lib.Seq.{take-at, drop-at}
+use Rattle.lists.proofs.Maps.{flatMap-snoc}
 use Rattle.sheet.specs.Decimal.{blank, lineFeed, decimal, aligned}
 use Rattle.sheet.specs.Page.{columns, numberColumns, field, line}
 use Rattle.sheet.specs.inner.Lines.{blanks, blankLines, Fitting}
 use Rattle.sheet.proofs.Digits.{decimal-width}
 
--- A part of a text from `at` to `end`, lent and given back as another text.
-module _ (text done rest part : List ℕ) (at end : ℕ) (is : text ≡ done ++ rest) (long : length done ≡ at) where
-  pub lent : take (end - at) (drop at text) ≡ take (end - at) rest
-  lent = ap (λ (l : List ℕ). take (end - at) l) (ap (drop at) is ∙ drop-at done rest at long)
+-- The k bytes of a text from `at` on, lent and given back as another part.
+module _ (text done rest : List ℕ) (at k : ℕ) (is : text ≡ done ++ rest) (long : length done ≡ at) where
+  pub lent : take k (drop at text) ≡ take k rest
+  lent = ap (take k) (ap (drop at) is ∙ drop-at done rest at long)
 
-  pub given-back : take at text ++ (part ++ drop (end - at) (drop at text)) ≡ done ++ (part ++ drop (end - at) rest)
-  given-back =
-      ap₂ (λ (a b : List ℕ). a ++ (part ++ drop (end - at) b)) (ap (take at) is ∙ take-at done rest at long) (ap (drop at) is ∙ drop-at done rest at long)
+  pub given-back : (part : List ℕ) → putMid at k text part ≡ done ++ (part ++ drop k rest)
+  given-back part =
+      ap₂ (λ (a b : List ℕ). a ++ (part ++ drop k b)) (ap (take at) is ∙ take-at done rest at long) (ap (drop at) is ∙ drop-at done rest at long)
 
 -- A part of blanks.
 pub take-blanks : (m k : ℕ) → m ≤ k → take m (blanks k) ≡ blanks m
@@ -59,3 +61,17 @@ blank-at i h =
 pub feed-at : getD (line []) columns 0 ≡ lineFeed
 unfolding line flatMap
 feed-at = refl
+
+-- Blank lines.
+pub length-blank-lines : (i : ℕ) → length (blankLines i) ≡ 81 * i
+unfolding flatMap
+length-blank-lines zero = refl
+length-blank-lines (suc i) =
+    length-append (line []) (blankLines i)
+    ∙ (let e : length (blankLines i) ≡ 81 * i = length-blank-lines i in
+    omega (arith, length-blank-line))
+
+pub blank-lines-next : (i : ℕ) → blankLines (i + 1) ≡ blankLines i ++ line []
+blank-lines-next i =
+    ap (flatMap line) (sym (replicate-append-replicate i 1 []))
+    ∙ flatMap-snoc line (replicate i []) []
