@@ -4,3 +4,4 @@ pub mod Numbers
 pub mod Gathered
 pub mod Text
 pub mod Blanked
+pub mod Numbered

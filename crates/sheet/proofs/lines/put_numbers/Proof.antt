@@ -5,8 +5,7 @@ use Prim.Native.Nat.{ℕ, _+_, _-_, _*_, _≤_, _<_}
 use native.Mathlib.Omega.{arith}
 use borrow.Author.Needs.{needs}
 use lib.ListN.{length, take, drop}
-use Rattle.sheet.specs.Page.{field}
-use Rattle.sheet.specs.inner.Lines.{blanks}
+use Rattle.sheet.proofs.Numbered.{Numbered, numbered-none, numbered-kept, numbered-part, numbered-next, numbered-all, asked, fitting-at}
 use Rattle.sheet.proofs.lines.put_numbers.Statement.{statement}
 use Rattle.sheet.proofs.lines.put_numbers.Tie as tie
 use Rattle.sheet.proofs.lines.put_numbers.Reads as reads
@@ -14,15 +13,14 @@ use Rattle.sheet.proofs.lines.put_numbers.Lts as lts
 use Rattle.sheet.proofs.number.put_number.Reads as put-number-reads
 
 abbrev Inv-loop : tie.InvT-loop
-Inv-loop numbers text₀ i₀ text i =
-    (i ≤ length numbers) × (length text ≡ length text₀) × (text ≡ flatMap field (take i numbers) ++ blanks (length text₀ - 8 * i))
+Inv-loop numbers text₀ i₀ text i = Numbered numbers text₀ text i
 
 abbrev μ-loop : tie.MeasureT-loop
 μ-loop numbers text₀ i₀ text i = length numbers - i
 
 -- src/lines.rt:19:5
 loop-holds : tie.Need-loop-holds Inv-loop μ-loop
-loop-holds c = ?
+loop-holds c = numbered-none _ _ (c .before .before .pre .1)
 
 -- src/lines.rt:20:18
 mul-at : tie.Need-mul-at Inv-loop μ-loop
@@ -50,11 +48,18 @@ part-put-number-start c = omega arith
 
 -- src/lines.rt:21:32
 part-put-number-end : tie.Need-part-put-number-end Inv-loop μ-loop
-part-put-number-end c = omega arith
+part-put-number-end c =
+    let l = c .before .before in
+    let pre = l .before .before .before .pre in
+    omega (arith, numbered-kept _ _ (l .loop .text) (l .loop .i) (pre .0) (pre .2) (l .loop .inv))
 
 -- src/lines.rt:21:9
 put-number-requires : tie.Need-put-number-requires Inv-loop μ-loop
-put-number-requires c κs = ?
+put-number-requires c κs =
+    let l = c .before .before .before in
+    let pre = l .before .before .before .pre in
+    asked _ _ (numbered-part _ _ (l .loop .text) (l .loop .i) (pre .0) (pre .2) (l .loop .inv) (8 * l .loop .i + 8 - 8 * l .loop .i) (omega arith) (omega arith))
+    (fitting-at _ (l .loop .i) (omega arith) (pre .2))
 
 -- src/lines.rt:22:9
 add-i : tie.Need-add-i Inv-loop μ-loop
@@ -66,15 +71,19 @@ loop-less c = omega arith
 
 -- src/lines.rt:19:5
 loop-again : tie.Need-loop-again Inv-loop μ-loop
-loop-again c = ?
+loop-again c =
+    let l = c .before .before .before .before .before .before in
+    let pre = l .before .before .before .pre in
+    numbered-next _ _ (l .loop .text) (l .loop .i) (pre .0) (pre .2) (l .loop .inv) (c .before .before .put-number .last .1 .0)
+    (8 * l .loop .i + 8 - 8 * l .loop .i) (omega arith) (omega arith) (c .before .before .put-number .ensures)
 
 -- src/lines.rt:13:1
 same-length : tie.Need-same-length Inv-loop μ-loop
-same-length c = ?
+same-length c = let l = c .before in let pre = l .before .before .before .pre in numbered-kept _ _ (l .loop .text) (l .loop .i) (pre .0) (pre .2) (l .loop .inv)
 
 -- src/lines.rt:13:1
 returns : tie.Need-returns Inv-loop μ-loop
-returns c = ?
+returns c = let l = c .before in let pre = l .before .before .before .pre in numbered-all _ _ (l .loop .text) (l .loop .i) (pre .0) (pre .2) (l .loop .inv) (omega arith)
 
 pub put-numbers-spec : {M : Type 1} → statement M
 put-numbers-spec =
