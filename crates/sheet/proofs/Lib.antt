@@ -5,3 +5,4 @@ pub mod Gathered
 pub mod Text
 pub mod Blanked
 pub mod Numbered
+pub mod Rowed
