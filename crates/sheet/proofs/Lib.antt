@@ -6,3 +6,4 @@ pub mod Text
 pub mod Blanked
 pub mod Numbered
 pub mod Rowed
+pub mod Refusals
