@@ -7,3 +7,4 @@ pub mod Blanked
 pub mod Numbered
 pub mod Rowed
 pub mod Refusals
+pub mod Heading

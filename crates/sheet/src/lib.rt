@@ -8,10 +8,10 @@ use operators::Output;
 use query::Query;
 ghost use mathlib.Core.Path.{_≡_};
 ghost use mathlib.Core.List.{_++_};
-ghost use Prim.Native.Nat.{_≤_};
+ghost use Prim.Native.Nat.{_-_, _≤_, min};
 ghost use lib.ListN.{length, drop};
 ghost use Rattle.lists.specs.Refusal.{refuse};
-ghost use Rattle.sheet.specs.Page.{pageSize, maxRows, pageCount, badRows, pageText, pageAnswer, pageBytes};
+ghost use Rattle.sheet.specs.Page.{pageRows, pageSize, maxRows, pageCount, badRows, pageText, pageAnswer, pageBytes};
 ghost use Rattle.sheet.specs.inner.Lines.{Accepted};
 
 // What a page answers: a refusal with 0, or 0 with the page count.
@@ -82,21 +82,29 @@ fn page_count(rows: usize) -> usize
     (rows + (PageAnswer::ROWS - 1)) / PageAnswer::ROWS
 }
 
+// How many of the rows from `first` on stand on one page.
+fn rows_from(first: usize, rows: usize) -> usize
+    requires { ⌜ first ≤ rows ⌝ }
+    ensures { λ r. ⌜ r ≡ min pageRows (rows - first) ⌝ }
+{
+    if PageAnswer::ROWS < rows - first {
+        return PageAnswer::ROWS;
+    }
+    rows - first
+}
+
 // Writes a page that is not refused: a blank one, then its heading and its rows.
 fn put_page(list: &[u32], n: usize, rows: usize, page: usize, pages: usize, bytes: &mut [u8])
     requires { ⌜ Accepted (now list) n rows page pages (length (now bytes)) ⌝ }
     ensures { λ _. ⌜ now (bytes .exit) ≡ pageText (now (list .entry)) n rows page ++ drop pageSize (now (bytes .entry)) ⌝ }
 {
-    let first = PageAnswer::ROWS * (page - 1);
-    let mut count = rows - first;
-    if PageAnswer::ROWS < count {
-        count = PageAnswer::ROWS;
-    }
     lines::put_blank_lines(bytes);
-    let heading = [page as u32, pages as u32];
-    lines::put_numbers(&heading, &mut bytes[..PageAnswer::COLUMNS]);
+    lines::put_heading(page, pages, bytes);
+    let first = PageAnswer::ROWS * (page - 1);
+    let count = rows_from(first, rows);
+    let from = n * first;
     lines::put_rows(
-        &list[n * first..n * (first + count)],
+        &list[from..from + n * count],
         n,
         count,
         &mut bytes[PageAnswer::LINE_BYTES..PageAnswer::BYTES],

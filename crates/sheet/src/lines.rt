@@ -2,9 +2,9 @@
 use crate::PageAnswer;
 use crate::number::put_number;
 ghost use mathlib.Core.Path.{_≡_};
-ghost use mathlib.Core.List.{[], _++_, flatMap};
-ghost use Prim.Native.Nat.{_+_, _-_, _*_, _≤_};
-ghost use lib.ListN.{length, drop, replicate};
+ghost use mathlib.Core.List.{[], _∷_, _++_, flatMap};
+ghost use Prim.Native.Nat.{_+_, _-_, _*_, _^_, _≤_, _<_};
+ghost use lib.ListN.{length, take, drop, replicate};
 ghost use Rattle.matching.specs.Row.{rowsOf};
 ghost use Rattle.sheet.specs.Page.{columns, numberColumns, pageRows, pageSize, field, line};
 ghost use Rattle.sheet.specs.inner.Lines.{blanks, blankLines, Fitting};
@@ -47,6 +47,15 @@ pub fn put_blank_lines(bytes: &mut [u8])
         put_blank_line(&mut bytes[at..at + PageAnswer::LINE_BYTES]);
         i += 1;
     }
+}
+
+// Writes the page number and the page count over the first line, which is blank.
+pub fn put_heading(page: usize, pages: usize, bytes: &mut [u8])
+    requires { ⌜ (page < 10 ^ numberColumns) × (pages < 10 ^ numberColumns) × (take (columns + 1) (now bytes) ≡ line []) ⌝ }
+    ensures { λ _. ⌜ now (bytes .exit) ≡ line (page ∷ pages ∷ []) ++ drop (columns + 1) (now (bytes .entry)) ⌝ }
+{
+    let numbers = [page as u32, pages as u32];
+    put_numbers(&numbers, &mut bytes[..PageAnswer::COLUMNS]);
 }
 
 // Writes rows of n words over blank lines, a line each.
