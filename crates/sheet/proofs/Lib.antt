@@ -8,3 +8,5 @@ pub mod Numbered
 pub mod Rowed
 pub mod Refusals
 pub mod Heading
+pub mod Paging
+pub mod Written

@@ -41,3 +41,31 @@ module _ (list : List ℕ) (n rows : ℕ) where
       pub bad-word : n * rows ≤ counted (length list) → badRows list n rows ≡ any (λ (w : ℕ). ltb maxWord w) (take (n * rows) list)
       unfolding badRows
       bad-word h = rw (le-ltb n 2 above, le-ltb 8 n below, le-ltb maxRows rows few, le-ltb (counted (length list)) (n * rows) h) refl
+
+-- What is known of rows that are not refused.
+pub record RowsRight (list : List ℕ) (n rows : ℕ) : Type 0 where
+  pub above : 2 ≤ n
+  pub below : n ≤ 8
+  pub few : rows ≤ maxRows
+  pub long : n * rows ≤ length list
+  pub small : any (λ (w : ℕ). ltb maxWord w) (take (n * rows) list) ≡ false
+
+pub rows-right : (list : List ℕ) (n rows : ℕ) → badRows list n rows ≡ false → RowsRight list n rows
+unfolding badRows
+rows-right list n rows e =
+    let low = ltb n 2 in
+    let high = ltb 8 n in
+    let many = ltb maxRows rows in
+    let short = ltb (counted (length list)) (n * rows) in
+    let large = any (λ (w : ℕ). ltb maxWord w) (take (n * rows) list) in
+    let e4 : (low || high || many || short) ≡ false = or-false-l (low || high || many || short) large e in
+    let e3 : (low || high || many) ≡ false = or-false-l (low || high || many) short e4 in
+    let e2 : (low || high) ≡ false = or-false-l (low || high) many e3 in
+    let fits : n * rows ≤ counted (length list) = ltb-false (counted (length list)) (n * rows) (or-false-r (low || high || many) short e4) in
+    record {
+      above = ltb-false n 2 (or-false-l low high e2);
+      below = ltb-false 8 n (or-false-r low high e2);
+      few = ltb-false maxRows rows (or-false-r (low || high) many e3);
+      long = omega arith;
+      small = or-false-r (low || high || many || short) large e;
+    }
