@@ -10,3 +10,4 @@ pub mod Refusals
 pub mod Heading
 pub mod Paging
 pub mod Written
+pub mod Answers
