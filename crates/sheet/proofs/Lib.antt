@@ -11,3 +11,5 @@ pub mod Heading
 pub mod Paging
 pub mod Written
 pub mod Answers
+pub mod Reading
+pub mod Sheets

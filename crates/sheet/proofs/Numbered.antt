@@ -22,14 +22,22 @@ use Rattle.sheet.proofs.Text.{lent, given-back, take-blanks, drop-blank
 abbrev fits : ℕ → Bool
 fits w = ltb w (10 ^ 8)
 
--- The first ones of fitting numbers fit, and so does each.
+-- What every number passes, the first ones pass and the others.
+module _ {A : Type 0} (p : A → Bool) (i : ℕ) (xs : List A) (e : all p xs ≡ true) where
+  both : (all p (take i xs) && all p (drop i xs)) ≡ true
+  both = sym (all-append p (take i xs) (drop i xs)) ∙ ap (all p) (take-append-drop i xs) ∙ e
+
+  pub all-first : all p (take i xs) ≡ true
+  all-first = and-l (all p (take i xs)) (all p (drop i xs)) both
+
+  pub all-later : all p (drop i xs) ≡ true
+  all-later = and-r (all p (take i xs)) (all p (drop i xs)) both
+
 pub fitting-take : (i : ℕ) (xs : List ℕ) → Fitting xs → Fitting (take i xs)
-fitting-take i xs e =
-    and-l (all fits (take i xs)) (all fits (drop i xs)) (sym (all-append fits (take i xs) (drop i xs)) ∙ ap (all fits) (take-append-drop i xs) ∙ e)
+fitting-take i xs e = all-first fits i xs e
 
 pub fitting-drop : (i : ℕ) (xs : List ℕ) → Fitting xs → Fitting (drop i xs)
-fitting-drop i xs e =
-    and-r (all fits (take i xs)) (all fits (drop i xs)) (sym (all-append fits (take i xs) (drop i xs)) ∙ ap (all fits) (take-append-drop i xs) ∙ e)
+fitting-drop i xs e = all-later fits i xs e
 
 pub fitting-at : (xs : List ℕ) (i : ℕ) → i < length xs → Fitting xs → getD xs i 0 < 10 ^ 8
 fitting-at xs i h e = ltb-true (getD xs i 0) (10 ^ 8) (all-getD fits xs i 0 h e)
