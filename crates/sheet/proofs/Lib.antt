@@ -13,3 +13,4 @@ pub mod Written
 pub mod Answers
 pub mod Reading
 pub mod Sheets
+pub mod Decimals
