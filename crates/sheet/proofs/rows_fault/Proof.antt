@@ -24,7 +24,7 @@ returns-2 c = let a = c .before .before .before .args in sym (ap (refuse 33) (ba
 returns-3 : tie.Need-returns-3
 returns-3 c = 
     let a = c .before .before .before .before .args in
-    sym (ap (refuse 33) (bad-many (a .list .now) (a .n) (a .rows) (omega arith) (omega arith) (c .if3 .taken)))
+    sym (ap (refuse 33) (bad-many (a .list .now) (a .n) (a .rows) (omega arith) (omega arith) (omega arith)))
 
 -- src/lib.rt:61:17
 mul-count : tie.Need-mul-count
