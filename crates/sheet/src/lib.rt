@@ -12,6 +12,7 @@ ghost use Prim.Native.Nat.{_-_, _≤_, min};
 ghost use lib.ListN.{length, drop};
 ghost use Rattle.lists.specs.Refusal.{refuse};
 ghost use Rattle.sheet.specs.Page.{pageRows, pageSize, maxRows, pageCount, badRows, pageText, pageAnswer, pageBytes};
+ghost use Rattle.sheet.specs.Claims.{SheetsHoldEveryRow};
 ghost use Rattle.sheet.specs.inner.Lines.{Accepted};
 
 // What a page answers: a refusal with 0, or 0 with the page count.
@@ -111,10 +112,11 @@ fn put_page(list: &[u32], n: usize, rows: usize, page: usize, pages: usize, byte
     );
 }
 
-// Fills one page of a list of rows of n words, and answers the page count.
+// Fills one page of a list of rows of n words, and answers the page count. Over all pages the bytes hold every row once, in list order.
 pub fn page(list: &[u32], n: usize, rows: usize, page: usize, bytes: &mut [u8]) -> PageAnswer
     ensures answer { λ r. ⌜ r ≡ pageAnswer (now (list .entry)) n rows page (length (now (bytes .entry))) ⌝ }
     ensures bytes { λ _. ⌜ now (bytes .exit) ≡ pageBytes (now (list .entry)) n rows page (now (bytes .entry)) ⌝ }
+    ensures sheets { λ _. ⌜ SheetsHoldEveryRow (now (list .entry)) n rows (now (bytes .entry)) ⌝ }
 {
     let fault = rows_fault(list, n, rows);
     if fault != 0 {
