@@ -152,6 +152,42 @@ fn pages_read_back() {
     });
 }
 
+/// What the gate's program must write is what this writer writes: the pages of seven lists, each over the one before, with the answer before
+/// them and the bytes past them, and the refusals.
+#[test]
+fn the_pages_of_the_gate() {
+    let words = |at: usize, word: u32| {
+        let mut list: Vec<u32> = (0..952).map(|i| i * 331 % 65_536).collect();
+        list[0] = 65_535;
+        list[at] = word;
+        list
+    };
+    let mut bytes = [b'?'; 4_864];
+    let mut text = Vec::new();
+    let mut show = |list: &[u32], numbers: [u64; 3], room: usize| match sheet::page(list, numbers, room) {
+        Ok((pages, page)) => {
+            bytes[..PAGE_BYTES].copy_from_slice(&page);
+            text.extend([format!("0 {pages}\n").as_bytes(), &bytes[..room], b"\n"].concat());
+        }
+        Err(refusal) => text.extend(format!("{refusal} 0\n").into_bytes()),
+    };
+    let list = words(0, 65_535);
+    for (rows, n) in [(0, 2), (1, 8), (58, 2), (59, 8), (60, 2), (118, 8), (119, 2)] {
+        for page in [1].into_iter().chain((2..=sheet::page_count(rows)).rev()) {
+            show(&list, [n, rows, page], 4_864);
+        }
+    }
+    for numbers in [[1, 119, 1], [9, 100, 1], [8, 1 << 61, 1], [8, 120, 1], [8, 119, 0], [8, 119, 4]] {
+        show(&list, numbers, 4_864);
+    }
+    show(&list, [8, 119, 3], 4_859);
+    let large = words(236, 65_536);
+    show(&large, [2, 119, 1], 4_864);
+    show(&large, [2, 119, 0], 0);
+    show(&large, [2, 118, 2], 4_864);
+    assert!(text == include_bytes!("../../crates/judge_sheet/stdout"), "the stored pages are others");
+}
+
 /// As many rows as there may be, in a list that is longer than what counts. Takes 4 GB: run with `--ignored`.
 #[test]
 #[ignore]

@@ -3,11 +3,10 @@ use mathlib.Core.Path.{_≡_, refl, sym, _∙_, ap, ap₂}
 use mathlib.Core.Bool.{Bool, true, false, _||_, cond}
 use mathlib.Core.List.{List, [], _∷_, _++_}
 use Prim.Native.Nat.{ℕ, _≤_, _<_}
-use native.Mathlib.Omega.{arith}
 use lib.Dec.{eqb, ltb}
 use lib.ListN.{length, drop}
 use borrow.Author.Tests.{eq-eqb, ne-eqb, lt-ltb, le-ltb}
-use Rattle.lists.specs.Refusal.{refuse, first, answered}
+use Rattle.lists.specs.Refusal.{refuse, first}
 use Rattle.lists.proofs.Faults.{first-some, refuse-zero}
 use Rattle.sheet.specs.declared.PageAnswer.{PageAnswer}
 use Rattle.sheet.specs.Page.{pageSize, pageCount, pageText, badRows, pageFault, pageAnswer, pageBytes}

@@ -3,7 +3,7 @@ use mathlib.Core.Path.{_≡_, refl, sym, _∙_, ap, ap₂, subst}
 use mathlib.Core.List.{List, [], _∷_, _++_, append-nil, append-assoc}
 use Prim.Native.Nat.{ℕ, zero, suc, _+_, _-_, _/_, _%_, _^_, _≤_, _<_}
 use native.Mathlib.Omega.{arith}
-use lib.ListN.{length, drop, set, replicate, length-append, length-drop, length-set, length-replicate, replicate-append-replicate}
+use lib.ListN.{length, drop, set, length-drop, length-set, length-replicate}
 use lib.Seq.{drop-length, drop-at, set-at}
 use Rattle.sheet.specs.Decimal.{blank, digit, decimal, aligned}
 use Rattle.sheet.specs.inner.Lines.{blanks}

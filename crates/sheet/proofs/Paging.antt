@@ -2,13 +2,13 @@
 use mathlib.Core.Path.{_≡_, refl, sym, _∙_, ap, ap₂, subst}
 use mathlib.Core.Bool.{Bool, true, false, not}
 use mathlib.Core.List.{List, [], _∷_, _++_, flatMap, append-assoc}
-use Prim.Native.Nat.{ℕ, zero, suc, _+_, _-_, _*_, _/_, _^_, _≤_, _<_, min, max}
-use native.Mathlib.Nat.{mul-comm, mul-le-mul-left}
+use Prim.Native.Nat.{ℕ, zero, suc, _+_, _-_, _*_, _^_, _≤_, _<_, min}
+use native.Mathlib.Nat.{mul-le-mul-left}
 use native.Mathlib.Omega.{arith}
-use borrow.Author.Tests.{ltb-true, ltb-false, lt-ltb, leb-true, leb-false}
+use borrow.Author.Tests.{ltb-false, lt-ltb, leb-true, leb-false}
 use borrow.Rule.Slice.PartMut.{putMid}
 use lib.Dec.{ltb, leb}
-use lib.ListN.{length, take, drop, replicate, length-append, length-drop}
+use lib.ListN.{length, take, drop, replicate, length-drop}
 use lib.Seq.{take-all, take-take, take-at, drop-at, drop-drop}
 use Rattle.lists.specs.Lists.{any, all}
 use Rattle.lists.proofs.Tests.{not-true, not-false}
@@ -17,7 +17,7 @@ use Rattle.lists.proofs.Any.{any-all}
 use Rattle.lists.proofs.Parts.{drop-take}
 use Rattle.matching.specs.Row.{rowsOf}
 use Rattle.matching.proofs.Words.{length-rows, rows-take}
-use Rattle.sheet.specs.Page.{maxRows, maxWord, pageCount, rowsOn, line, pageText}
+use Rattle.sheet.specs.Page.{maxRows, maxWord, pageCount, line}
 use Rattle.sheet.specs.inner.Lines.{blankLines, Fitting}
 use Rattle.sheet.proofs.Text.{lent, given-back, length-blank-line, length-blank-lines}
 use Rattle.sheet.proofs.Numbered.{fitting-take, fitting-drop}

@@ -1,16 +1,15 @@
 -- When the rows of a list are refused, test by test, and the refusals of a page in their order. Assumes nothing.
-use mathlib.Core.Path.{_≡_, refl, sym, _∙_, ap, ap₂}
-use mathlib.Core.Bool.{Bool, true, false, _||_}
+use mathlib.Core.Path.{_≡_, refl}
+use mathlib.Core.Bool.{true, false, _||_}
 use mathlib.Core.List.{List}
-use Prim.Native.Nat.{ℕ, _+_, _*_, _≤_, _<_, min}
+use Prim.Native.Nat.{ℕ, _*_, _≤_, _<_}
 use native.Mathlib.Nat.{mul-le-mul-right}
 use native.Mathlib.Omega.{arith}
 use lib.Dec.{ltb}
 use lib.ListN.{length, take}
-use borrow.Author.Tests.{ltb-true, ltb-false, lt-ltb, le-ltb}
+use borrow.Author.Tests.{ltb-false, lt-ltb, le-ltb}
 use Rattle.lists.specs.Lists.{any}
-use Rattle.lists.proofs.Tests.{or-false, or-false-l, or-false-r, or-intro-l, or-intro-r}
-use Rattle.operators.specs.Limit.{maxWords}
+use Rattle.lists.proofs.Tests.{or-false-l, or-false-r}
 use Rattle.execution.specs.Run.{counted}
 use Rattle.sheet.specs.Page.{maxRows, maxWord, badRows}
 
@@ -19,7 +18,6 @@ pub product-small : (n rows : ℕ) → n ≤ 8 → rows ≤ maxRows → n * rows
 product-small n rows h l = let m : n * rows ≤ 8 * rows = mul-le-mul-right rows h in omega arith
 
 module _ (list : List ℕ) (n rows : ℕ) where
-
   pub bad-low : n < 2 → badRows list n rows ≡ true
   unfolding badRows
   bad-low h = rw (lt-ltb n 2 h) refl

@@ -1,26 +1,24 @@
 -- The pages of a list hold every row, once and in the list's order. Assumes nothing.
-use mathlib.Core.Path.{_≡_, refl, sym, _∙_, ap, ap₂, subst}
-use mathlib.Core.Bool.{Bool, true, false, not, _&&_}
+use mathlib.Core.Path.{_≡_, refl, sym, _∙_, ap, ap₂}
+use mathlib.Core.Bool.{Bool, true, not, _&&_}
 use mathlib.Core.List.{List, [], _∷_, _++_, map, flatMap, append-assoc, append-nil}
 use mathlib.Core.Option.{none}
-use Prim.Native.Nat.{ℕ, zero, suc, _+_, _-_, _*_, _/_, _%_, _^_, _≤_, _<_, min, max}
-use native.Mathlib.Nat.{mul-comm}
+use Prim.Native.Nat.{ℕ, zero, suc, _+_, _-_, _*_, _/_, _%_, _^_, _≤_, _<_}
 use native.Mathlib.Omega.{arith}
 use lib.Dec.{eqb, leb, ltb}
 use lib.ListN.{length, getD, take, drop, replicate, length-append, length-take, length-drop, length-replicate, List·getD-append}
-use lib.Seq.{take-at, drop-at, drop-drop, take-add, take-all, getD-take, getD-drop, drop-append-add}
-use borrow.Author.Tests.{ltb-false, lt-ltb, le-leb, leb-true, ne-eqb, eq-eqb}
-use Rattle.lists.specs.Lists.{range, all, any, keep}
+use lib.Seq.{take-at, drop-at, drop-drop, take-add, take-all, getD-take, getD-drop}
+use borrow.Author.Tests.{ltb-false, lt-ltb, le-leb, leb-true, ne-eqb}
+use Rattle.lists.specs.Lists.{range, all, keep}
 use Rattle.lists.proofs.Tests.{and-l, and-r, and-both, not-true, not-false}
-use Rattle.lists.proofs.All.{all-append, all-follows, all-getD, getD-all, keep-append, keep-all}
+use Rattle.lists.proofs.All.{all-append, all-follows, all-getD, keep-append, keep-all}
 use Rattle.lists.proofs.Any.{any-all}
 use Rattle.lists.proofs.Maps.{map-indices, flatMap-suc, flatMap-range-ext}
 use Rattle.matching.specs.Row.{rowsOf}
-use Rattle.matching.proofs.Words.{length-rows, rows-at, rows-take, part-length, row-ends}
+use Rattle.matching.proofs.Words.{length-rows, rows-at, rows-take}
 use Rattle.sheet.specs.declared.PageAnswer.{PageAnswer}
-use Rattle.sheet.specs.Page.{maxRows, maxWord, pageSize, pageCount, rowsOn, pageLines, line, pageText, badRows, pageFault, pageAnswer, pageBytes}
-use Rattle.sheet.specs.Claims.{numbersFrom, numbersOn, rowsRead, EveryRow, SheetsHoldEveryRow}
-use Rattle.sheet.specs.inner.Lines.{Fitting}
+use Rattle.sheet.specs.Page.{maxRows, maxWord, pageSize, pageCount, rowsOn, pageLines, line, pageText, pageAnswer, pageBytes}
+use Rattle.sheet.specs.Claims.{numbersFrom, numbersOn, rowsRead, SheetsHoldEveryRow}
 use Rattle.sheet.proofs.Numbered.{all-first, all-later}
 use Rattle.sheet.proofs.Rowed.{length-line}
 use Rattle.sheet.proofs.Refusals.{RowsRight, rows-right}

@@ -1,18 +1,15 @@
 -- Laws of blank text and of lines: what a part of them is, and what stands after a part was written. Assumes nothing.
 use mathlib.Core.Path.{_≡_, refl, sym, _∙_, ap, ap₂}
-use mathlib.Core.Bool.{Bool, true}
-use mathlib.Core.List.{List, [], _∷_, _++_, flatMap, append-assoc, append-nil}
+use mathlib.Core.List.{List, [], _∷_, _++_, flatMap}
 use Prim.Native.Nat.{ℕ, zero, suc, _+_, _-_, _*_, _^_, _≤_, _<_}
 use native.Mathlib.Omega.{arith}
-use native.Mathlib.Numerals.{add-one}
 use borrow.Rule.Slice.PartMut.{putMid}
-use lib.Dec.{ltb}
 use lib.ListN.{length, getD, take, drop, replicate, length-append, length-replicate, getD-replicate, replicate-append-replicate, List·getD-append}
 use lib.Seq.{take-at, drop-at}
 use Rattle.lists.proofs.Maps.{flatMap-snoc}
 use Rattle.sheet.specs.Decimal.{blank, lineFeed, decimal, aligned}
 use Rattle.sheet.specs.Page.{columns, numberColumns, field, line}
-use Rattle.sheet.specs.inner.Lines.{blanks, blankLines, Fitting}
+use Rattle.sheet.specs.inner.Lines.{blanks, blankLines}
 use Rattle.sheet.proofs.Digits.{decimal-width}
 
 -- The k bytes of a text from `at` on, lent and given back as another part.

@@ -68,7 +68,10 @@ pub fn put_rows(words: &[u32], n: usize, rows: usize, lines: &mut [u8])
     while i < rows {
         let at = PageAnswer::LINE_BYTES * i;
         let from = n * i;
-        put_numbers(&words[from..from + n], &mut lines[at..at + PageAnswer::COLUMNS]);
+        put_numbers(
+            &words[from..from + n],
+            &mut lines[at..at + PageAnswer::COLUMNS],
+        );
         i += 1;
     }
 }

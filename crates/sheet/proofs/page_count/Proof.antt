@@ -4,8 +4,6 @@ use borrow.Author.Needs.{needs}
 use Rattle.sheet.specs.Page.{pageCount}
 use Rattle.sheet.proofs.page_count.Statement.{statement}
 use Rattle.sheet.proofs.page_count.Tie as tie
-use Rattle.sheet.proofs.page_count.Reads as reads
-use Rattle.sheet.proofs.page_count.Lts as lts
 
 returns : tie.Need-returns
 unfolding pageCount

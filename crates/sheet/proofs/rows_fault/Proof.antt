@@ -1,6 +1,5 @@
 -- `sheet::rows_fault` meets its contract. Assumes nothing.
-use mathlib.Core.Path.{_≡_, sym, _∙_, ap}
-use mathlib.Core.Bool.{Bool}
+use mathlib.Core.Path.{sym, _∙_, ap}
 use native.Mathlib.Omega.{arith}
 use lib.Seq.{length-take-le}
 use Rattle.lists.specs.Refusal.{refuse}
@@ -8,57 +7,44 @@ use Rattle.sheet.proofs.Refusals.{product-small, bad-low, bad-high, bad
 use borrow.Author.Needs.{needs}
 use Rattle.sheet.proofs.rows_fault.Statement.{statement}
 use Rattle.sheet.proofs.rows_fault.Tie as tie
-use Rattle.sheet.proofs.rows_fault.Reads as reads
-use Rattle.sheet.proofs.rows_fault.Lts as lts
-use Rattle.sheet.proofs.large.any_large.Reads as any-large-reads
 
--- src/lib.rt:53:9
 returns : tie.Need-returns
 returns c = let a = c .before .before .args in sym (ap (refuse 33) (bad-low (a .list .now) (a .n) (a .rows) (c .if1 .taken)))
 
--- src/lib.rt:56:9
 returns-2 : tie.Need-returns-2
 returns-2 c = let a = c .before .before .before .args in sym (ap (refuse 33) (bad-high (a .list .now) (a .n) (a .rows) (c .if2 .taken)))
 
--- src/lib.rt:59:9
 returns-3 : tie.Need-returns-3
-returns-3 c = 
+returns-3 c =
     let a = c .before .before .before .before .args in
     sym (ap (refuse 33) (bad-many (a .list .now) (a .n) (a .rows) (omega arith) (omega arith) (omega arith)))
 
--- src/lib.rt:61:17
 mul-count : tie.Need-mul-count
 mul-count c = let a = c .before .before .before .before .args in omega (arith, product-small (a .n) (a .rows) (omega arith) (omega arith))
 
--- src/lib.rt:63:9
 returns-4 : tie.Need-returns-4
-returns-4 c = 
+returns-4 c =
     let a = c .before .before .before .before .before .args in
     sym (ap (refuse 33) (bad-short (a .list .now) (a .n) (a .rows) (omega arith) (omega arith) (omega arith) (omega arith)))
 
--- src/lib.rt:66:9
 returns-5 : tie.Need-returns-5
-returns-5 c = 
+returns-5 c =
     let a = c .before .before .before .before .before .before .args in
     sym (ap (refuse 33) (bad-short (a .list .now) (a .n) (a .rows) (omega arith) (omega arith) (omega arith) (omega arith)))
 
--- src/lib.rt:68:25
 slice-aggregate-any-large : tie.Need-slice-aggregate-any-large
 slice-aggregate-any-large c = let a = c .before .before .before .before .before .before .before .args in sym (length-take-le _ (a .list .now) (omega arith))
 
--- src/lib.rt:68:8
 any-large-requires : tie.Need-any-large-requires
 any-large-requires c κs = search needs
 
--- src/lib.rt:69:9
 returns-6 : tie.Need-returns-6
-returns-6 c = 
+returns-6 c =
     let a = c .before .before .before .before .before .before .before .before .before .args in
     sym (ap (refuse 33) (bad-word (a .list .now) (a .n) (a .rows) (omega arith) (omega arith) (omega arith) (omega arith) ∙ sym (c .before .any-large .ensures) ∙ c .if6 .taken))
 
--- src/lib.rt:49:1
 returns-7 : tie.Need-returns-7
-returns-7 c = 
+returns-7 c =
     let a = c .before .before .before .before .before .before .before .before .before .args in
     sym (ap (refuse 33) (bad-word (a .list .now) (a .n) (a .rows) (omega arith) (omega arith) (omega arith) (omega arith) ∙ sym (c .before .any-large .ensures) ∙ c .if6 .left))
 

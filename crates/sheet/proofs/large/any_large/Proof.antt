@@ -6,8 +6,6 @@ use lib.ListN.{length}
 use Rattle.sheet.proofs.Gathered.{Gathered, gathered-none, gathered-next, gathered-all}
 use Rattle.sheet.proofs.large.any_large.Statement.{statement}
 use Rattle.sheet.proofs.large.any_large.Tie as tie
-use Rattle.sheet.proofs.large.any_large.Reads as reads
-use Rattle.sheet.proofs.large.any_large.Lts as lts
 
 abbrev Inv-loop : tie.InvT-loop
 Inv-loop words seen₀ i₀ seen i = (i ≤ length words) × Gathered words seen i

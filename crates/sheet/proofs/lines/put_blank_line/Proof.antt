@@ -1,19 +1,15 @@
 -- `sheet::lines::put_blank_line` meets its contract: the first i bytes are those of a blank line. Assumes nothing.
-use mathlib.Core.Path.{_≡_, refl, sym, _∙_, ap, ap₂, subst}
+use mathlib.Core.Path.{_≡_, sym, _∙_, ap₂, subst}
 use mathlib.Core.List.{List, [], _++_, append-nil}
-use Prim.Native.Nat.{ℕ, _+_, _-_, _≤_, _<_}
-use native.Mathlib.Nat.{le-refl}
+use Prim.Native.Nat.{ℕ, _+_, _-_, _≤_}
 use native.Mathlib.Omega.{arith}
-use borrow.Author.Needs.{needs}
-use lib.ListN.{length, take, drop, set, length-set, drop-of-length-le}
+use lib.ListN.{length, set, length-set, drop-of-length-le}
 use lib.Seq.{take-all}
 use Rattle.words.proofs.Copying.{Copied, start, next}
 use Rattle.sheet.specs.Page.{columns, line}
 use Rattle.sheet.proofs.Text.{length-blank-line, blank-at, feed-at}
 use Rattle.sheet.proofs.lines.put_blank_line.Statement.{statement}
 use Rattle.sheet.proofs.lines.put_blank_line.Tie as tie
-use Rattle.sheet.proofs.lines.put_blank_line.Reads as reads
-use Rattle.sheet.proofs.lines.put_blank_line.Lts as lts
 
 -- The line feed makes the line whole.
 whole : (before after : List ℕ) (i : ℕ) → length before ≡ columns + 1 → i ≡ columns → Copied (line []) before after i → set after columns 10 ≡ line []

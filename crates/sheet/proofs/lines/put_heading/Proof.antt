@@ -6,45 +6,34 @@ use Rattle.sheet.proofs.Heading.{long, heading-asks, heading-put}
 use borrow.Author.Needs.{needs}
 use Rattle.sheet.proofs.lines.put_heading.Statement.{statement}
 use Rattle.sheet.proofs.lines.put_heading.Tie as tie
-use Rattle.sheet.proofs.lines.put_heading.Reads as reads
-use Rattle.sheet.proofs.lines.put_heading.Lts as lts
-use Rattle.sheet.proofs.lines.put_numbers.Reads as put-numbers-reads
 
--- src/lines.rt:57:20
 cast-t5 : tie.Need-cast-t5
 cast-t5 c = search needs
 
--- src/lines.rt:57:33
 cast-t6 : tie.Need-cast-t6
 cast-t6 c = search needs
 
--- src/lines.rt:58:17
 slice-aggregate-put-numbers : tie.Need-slice-aggregate-put-numbers
 slice-aggregate-put-numbers c = search needs
 
--- src/lines.rt:58:27
 slice-relend-prefix-put-numbers : tie.Need-slice-relend-prefix-put-numbers
-slice-relend-prefix-put-numbers c = 
+slice-relend-prefix-put-numbers c =
     let a = c .before .before in
     omega (arith, long (a .args .page) (a .args .pages) (a .args .bytes .now) (a .pre .0) (a .pre .1) (a .pre .2))
 
--- src/lines.rt:58:27
 slice-aggregate-put-numbers-2 : tie.Need-slice-aggregate-put-numbers-2
-slice-aggregate-put-numbers-2 c = 
+slice-aggregate-put-numbers-2 c =
     let a = c .before .before .before in
     sym (length-take-le 80 (a .args .bytes .now) (omega (arith, long (a .args .page) (a .args .pages) (a .args .bytes .now) (a .pre .0) (a .pre .1) (a .pre .2))))
 
--- src/lines.rt:58:5
 put-numbers-requires : tie.Need-put-numbers-requires
 put-numbers-requires c κs = let a = c .before .before .before in heading-asks (a .args .page) (a .args .pages) (a .args .bytes .now) (a .pre .0) (a .pre .1) (a .pre .2)
 
--- src/lines.rt:53:1
 same-length : tie.Need-same-length
 same-length c = search needs
 
--- src/lines.rt:53:1
 returns : tie.Need-returns
-returns c = 
+returns c =
     let a = c .before .before .before .before .before .before in
     heading-put (a .args .page) (a .args .pages) (a .args .bytes .now) (a .pre .0) (a .pre .1) (a .pre .2) _ (c .before .before .put-numbers .ensures)
 

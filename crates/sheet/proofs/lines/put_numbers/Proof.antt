@@ -1,16 +1,11 @@
 -- `sheet::lines::put_numbers` meets its contract: the first i numbers are written, blanks follow. Assumes nothing.
-use mathlib.Core.Path.{_≡_, refl, sym, _∙_, ap, ap₂}
-use mathlib.Core.List.{List, [], _++_, flatMap}
-use Prim.Native.Nat.{ℕ, _+_, _-_, _*_, _≤_, _<_}
+use Prim.Native.Nat.{_+_, _-_, _*_}
 use native.Mathlib.Omega.{arith}
 use borrow.Author.Needs.{needs}
-use lib.ListN.{length, take, drop}
+use lib.ListN.{length}
 use Rattle.sheet.proofs.Numbered.{Numbered, numbered-none, numbered-kept, numbered-part, numbered-next, numbered-all, asked, fitting-at}
 use Rattle.sheet.proofs.lines.put_numbers.Statement.{statement}
 use Rattle.sheet.proofs.lines.put_numbers.Tie as tie
-use Rattle.sheet.proofs.lines.put_numbers.Reads as reads
-use Rattle.sheet.proofs.lines.put_numbers.Lts as lts
-use Rattle.sheet.proofs.number.put_number.Reads as put-number-reads
 
 abbrev Inv-loop : tie.InvT-loop
 Inv-loop numbers text₀ i₀ text i = Numbered numbers text₀ text i
@@ -18,42 +13,33 @@ Inv-loop numbers text₀ i₀ text i = Numbered numbers text₀ text i
 abbrev μ-loop : tie.MeasureT-loop
 μ-loop numbers text₀ i₀ text i = length numbers - i
 
--- src/lines.rt:19:5
 loop-holds : tie.Need-loop-holds Inv-loop μ-loop
 loop-holds c = numbered-none _ _ (c .before .before .pre .1)
 
--- src/lines.rt:20:18
 mul-at : tie.Need-mul-at Inv-loop μ-loop
 mul-at c = omega arith
 
--- src/lines.rt:21:20
 mul-put-number : tie.Need-mul-put-number Inv-loop μ-loop
 mul-put-number c = search needs
 
--- src/lines.rt:21:20
 shared-slice-read-put-number : tie.Need-shared-slice-read-put-number Inv-loop μ-loop
 shared-slice-read-put-number c = search needs
 
--- src/lines.rt:21:46
 add-put-number : tie.Need-add-put-number Inv-loop μ-loop
 add-put-number c = omega arith
 
--- src/lines.rt:21:32
 sub-put-number : tie.Need-sub-put-number Inv-loop μ-loop
 sub-put-number c = omega arith
 
--- src/lines.rt:21:32
 part-put-number-start : tie.Need-part-put-number-start Inv-loop μ-loop
 part-put-number-start c = omega arith
 
--- src/lines.rt:21:32
 part-put-number-end : tie.Need-part-put-number-end Inv-loop μ-loop
 part-put-number-end c =
     let l = c .before .before in
     let pre = l .before .before .before .pre in
     omega (arith, numbered-kept _ _ (l .loop .text) (l .loop .i) (pre .0) (pre .2) (l .loop .inv))
 
--- src/lines.rt:21:9
 put-number-requires : tie.Need-put-number-requires Inv-loop μ-loop
 put-number-requires c κs =
     let l = c .before .before .before in
@@ -61,15 +47,12 @@ put-number-requires c κs =
     asked _ _ (numbered-part _ _ (l .loop .text) (l .loop .i) (pre .0) (pre .2) (l .loop .inv) (8 * l .loop .i + 8 - 8 * l .loop .i) (omega arith) (omega arith))
     (fitting-at _ (l .loop .i) (omega arith) (pre .2))
 
--- src/lines.rt:22:9
 add-i : tie.Need-add-i Inv-loop μ-loop
 add-i c = omega arith
 
--- src/lines.rt:19:5
 loop-less : tie.Need-loop-less Inv-loop μ-loop
 loop-less c = omega arith
 
--- src/lines.rt:19:5
 loop-again : tie.Need-loop-again Inv-loop μ-loop
 loop-again c =
     let l = c .before .before .before .before .before .before in
@@ -77,11 +60,9 @@ loop-again c =
     numbered-next _ _ (l .loop .text) (l .loop .i) (pre .0) (pre .2) (l .loop .inv) (c .before .before .put-number .last .1 .0)
     (8 * l .loop .i + 8 - 8 * l .loop .i) (omega arith) (omega arith) (c .before .before .put-number .ensures)
 
--- src/lines.rt:13:1
 same-length : tie.Need-same-length Inv-loop μ-loop
 same-length c = let l = c .before in let pre = l .before .before .before .pre in numbered-kept _ _ (l .loop .text) (l .loop .i) (pre .0) (pre .2) (l .loop .inv)
 
--- src/lines.rt:13:1
 returns : tie.Need-returns Inv-loop μ-loop
 returns c = let l = c .before in let pre = l .before .before .before .pre in numbered-all _ _ (l .loop .text) (l .loop .i) (pre .0) (pre .2) (l .loop .inv) (omega arith)
 

@@ -1,14 +1,11 @@
 -- `sheet::number::put_number` meets its contract: the digits after those that are left are written. Assumes nothing.
-use mathlib.Core.Path.{_≡_, refl, sym, _∙_, ap}
-use Prim.Native.Nat.{ℕ, suc, _-_, _≤_, _<_}
+use Prim.Native.Nat.{_-_}
 use native.Mathlib.Omega.{arith}
 use borrow.Author.Needs.{needs}
 use lib.ListN.{length}
 use Rattle.sheet.proofs.Numbers.{Writing, start, next, last}
 use Rattle.sheet.proofs.number.put_number.Statement.{statement}
 use Rattle.sheet.proofs.number.put_number.Tie as tie
-use Rattle.sheet.proofs.number.put_number.Reads as reads
-use Rattle.sheet.proofs.number.put_number.Lts as lts
 
 abbrev Inv-loop : tie.InvT-loop
 Inv-loop x columns₀ i₀ rest₀ columns i rest = Writing x (length columns₀) columns i rest
