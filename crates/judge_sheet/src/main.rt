@@ -1,6 +1,7 @@
-// Worked pages: those of lists that end before, at and after the end of a page, written over one another into the same bytes, and the
-// refusals. Before each page stand its refusal and its page count, and after it the bytes past it, which stay. What must come out,
-// `stdout`, is by a writer that shares no code with the sheet: the host's tests compare it with theirs.
+// Worked pages: those of lists that end before, at and after the end of a page, written over one another into
+// the same bytes, and the refusals. Before each page stand its refusal and its page count, and after it the
+// bytes past it, which stay. What must come out, `stdout`, is by a writer that shares no code with the sheet:
+// the host's tests compare it with theirs.
 use libc::STDOUT_FILENO;
 ghost use Prim.Native.Nat.{_≤_, _<_};
 ghost use lib.ListN.{length};
@@ -13,7 +14,8 @@ const ROWS: [usize; LISTS] = [0, 1, 58, 59, 60, 118, 119];
 
 const WIDTHS: [usize; LISTS] = [2, 8, 2, 8, 2, 8, 2];
 
-// The words of 119 rows of 8, of one to five digits, the first of them the largest there may be, and one put in place of another.
+// The words of 119 rows of 8, of one to five digits, the first of them the largest there may be, and one put
+// in place of another.
 fn words(at: usize, word: u32) -> [u32; WORDS]
     requires { ⌜ at < 952 ⌝ }
 {
@@ -50,7 +52,8 @@ fn show_pages(list: &[u32], n: usize, rows: usize, bytes: &mut [u8]) {
     }
 }
 
-// Each condition of 33, the product of 8 and the rows that is 0 in 64 bits among them; pages that there are not.
+// Each condition of 33, the product of 8 and the rows that is 0 in 64 bits among them; pages that there are
+// not.
 fn show_refused(list: &[u32], bytes: &mut [u8]) {
     show(list, 1, 119, 1, bytes);
     show(list, 9, 100, 1, bytes);
@@ -67,8 +70,8 @@ fn show_short(list: &[u32], bytes: &mut [u8])
     show(list, 8, 119, 3, &mut bytes[..4859]);
 }
 
-// 65,536 in the last of 119 rows is refused on every page, before a page that there is not and too few bytes are; past 118 rows it
-// is not read.
+// 65,536 in the last of 119 rows is refused on every page, before a page that there is not and too few bytes
+// are; past 118 rows it is not read.
 fn show_large(bytes: &mut [u8]) {
     let list = words(236, 65536);
     show(&list, 2, 119, 1, bytes);

@@ -1,4 +1,5 @@
--- Decimal numbers: their digits spell the number, no zero leads, and no other text does as much. Assumes nothing.
+-- Decimal numbers: their digits spell the number, no zero leads, and no other text does as much. Assumes
+-- nothing.
 use mathlib.Core.Path.{_≡_, refl, sym, _∙_, ap, ap₂, subst}
 use mathlib.Core.Bool.{Bool, true, false, _&&_}
 use mathlib.Core.List.{List, [], _∷_, _++_}

@@ -1,4 +1,5 @@
--- Laws of decimal numbers, of the words of a list tested together, of lines and pages, and what the pages hold.
+-- Laws of decimal numbers, of the words of a list tested together, of lines and pages, and what the pages
+-- hold.
 pub mod Digits
 pub mod Numbers
 pub mod Gathered

@@ -1,4 +1,5 @@
--- The rows of a page in the list, and the page's bytes as they are written: blank lines, the heading, the rows. Assumes nothing.
+-- The rows of a page in the list, and the page's bytes as they are written: blank lines, the heading, the
+-- rows. Assumes nothing.
 use mathlib.Core.Path.{_≡_, refl, sym, _∙_, ap, ap₂, subst}
 use mathlib.Core.Bool.{Bool, true, false, not}
 use mathlib.Core.List.{List, [], _∷_, _++_, flatMap, append-assoc}

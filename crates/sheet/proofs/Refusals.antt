@@ -1,4 +1,5 @@
--- When the rows of a list are refused, test by test, and the refusals of a page in their order. Assumes nothing.
+-- When the rows of a list are refused, test by test, and the refusals of a page in their order. Assumes
+-- nothing.
 use mathlib.Core.Path.{_≡_, refl}
 use mathlib.Core.Bool.{true, false, _||_}
 use mathlib.Core.List.{List}

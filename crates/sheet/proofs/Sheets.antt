@@ -25,7 +25,8 @@ use Rattle.sheet.proofs.Refusals.{RowsRight, rows-right}
 use Rattle.sheet.proofs.Answers.{fault-none, accepted-left}
 use Rattle.sheet.proofs.Reading.{apart, reads-line}
 
--- A row of at most ten numbers of at most seven digits each: its line is 81 bytes long, and the row is read from it.
+-- A row of at most ten numbers of at most seven digits each: its line is 81 bytes long, and the row is read
+-- from it.
 abbrev proper : List ℕ → Bool
 proper row = leb (length row) 10 && all apart row
 

@@ -1,4 +1,5 @@
--- Laws of blank text and of lines: what a part of them is, and what stands after a part was written. Assumes nothing.
+-- Laws of blank text and of lines: what a part of them is, and what stands after a part was written. Assumes
+-- nothing.
 use mathlib.Core.Path.{_≡_, refl, sym, _∙_, ap, ap₂}
 use mathlib.Core.List.{List, [], _∷_, _++_, flatMap}
 use Prim.Native.Nat.{ℕ, zero, suc, _+_, _-_, _*_, _^_, _≤_, _<_}

@@ -15,12 +15,13 @@ lineFeed = 10
 abbrev pub digit : ℕ → ℕ
 digit d = 48 + d
 
--- A number's last k decimal digits, fewer where it has fewer: one digit of a number below 10, else those of its tenth and then its last.
+-- A number's last k decimal digits, fewer where it has fewer: one digit of a number below 10, else those of
+-- its tenth and then its last.
 unfoldable pub digitsOf : ℕ → ℕ → List ℕ
 digitsOf zero n = []
 digitsOf (suc k) n = cond (ltb n 10) (digit n ∷ []) (digitsOf k (n / 10) ++ (digit (n % 10) ∷ []))
 
--- A number in decimal, with no leading zeros. It never has more digits than it says itself and one.
+-- A number in decimal, with no leading zeros: n has at most n + 1 digits.
 unfoldable pub decimal : ℕ → List ℕ
 decimal n = digitsOf (suc n) n
 

@@ -1,4 +1,5 @@
--- The sheet, document 02, paper 13: every byte of a page, the page count, and when a page is refused. Assumes nothing.
+-- The sheet, document 02, paper 13: every byte of a page, the page count, and when a page is refused. Assumes
+-- nothing.
 use mathlib.Core.Bool.{Bool, cond, _||_}
 use mathlib.Core.List.{List, [], _∷_, _++_, flatMap}
 use Prim.Native.Nat.{ℕ, _+_, _-_, _*_, _/_, max}
@@ -12,8 +13,8 @@ use Rattle.execution.specs.Run.{counted}
 use Rattle.sheet.specs.declared.PageAnswer.{PageAnswer}
 use Rattle.sheet.specs.Decimal.{blank, lineFeed, decimal, aligned}
 
--- '80 columns wide'; 'each item number .. in 8 columns'; '59 rows follow' the first line; 'each line ends in a line feed, so a page is
--- 4,860 bytes'.
+-- '80 columns wide'; 'each item number .. in 8 columns'; '59 rows follow' the first line; 'each line ends in
+-- a line feed, so a page is 4,860 bytes'.
 abbrev pub columns : ℕ
 columns = 80
 
@@ -39,25 +40,28 @@ field x = aligned numberColumns (decimal x)
 
 -- A line of numbers, 'blanks filling the line', and its line feed. No numbers give a blank line.
 unfoldable pub line : List ℕ → List ℕ
-line numbers = let text = flatMap field numbers in text ++ (replicate (columns - length text) blank ++ (lineFeed ∷ []))
+line numbers =
+    let text = flatMap field numbers in
+    text ++ (replicate (columns - length text) blank ++ (lineFeed ∷ []))
 
 -- 'The page count equals rows divided by 59, rounded up, and at least 1.'
 unfoldable pub pageCount : ℕ → ℕ
-pageCount rows = max 1 ((rows + 58) / 59)
+pageCount rows = max 1 ((rows + (pageRows - 1)) / pageRows)
 
 -- The rows of a page, 59 a page 'in list order'.
 abbrev pub rowsOn : List (List ℕ) → ℕ → List (List ℕ)
 rowsOn rows page = take pageRows (drop (pageRows * (page - 1)) rows)
 
--- The lines of a page: 'the first line holds the page number and page count; 59 rows follow, and the last page is filled with blank lines'.
+-- The lines of a page: 'the first line holds the page number and page count; 59 rows follow, and the last
+-- page is filled with blank lines'.
 abbrev pub pageLines : List (List ℕ) → ℕ → ℕ → List (List ℕ)
 pageLines on page count = (page ∷ count ∷ []) ∷ (on ++ replicate (pageRows - length on) [])
 
 unfoldable pub pageText : List ℕ → ℕ → ℕ → ℕ → List ℕ
 pageText list n rows page = flatMap line (pageLines (rowsOn (rowsOf n rows list) page) page (pageCount rows))
 
--- 'N outside 2 to 8, more than 536,870,912 rows, a list whose counted length is too short for its rows, or a row word above 65,535': a word
--- of any row, on whatever page.
+-- 'N outside 2 to 8, more than 536,870,912 rows, a list whose counted length is too short for its rows, or a
+-- row word above 65,535': a word of any row, on whatever page.
 unfoldable pub badRows : List ℕ → ℕ → ℕ → Bool
 badRows list n rows =
     ltb n minVertices || ltb maxVertices n || ltb maxRows rows || ltb (counted (length list)) (n * rows)
@@ -80,4 +84,6 @@ pageAnswer list n rows page room =
 -- The lent bytes afterwards: the page, 'and bytes past it stay untouched'; refused, 'the page untouched'.
 unfoldable pub pageBytes : List ℕ → ℕ → ℕ → ℕ → List ℕ → List ℕ
 pageBytes list n rows page bytes =
-    cond (eqb (pageFault list n rows page (length bytes)) 0) (pageText list n rows page ++ drop pageSize bytes) bytes
+    cond (eqb (pageFault list n rows page (length bytes)) 0)
+    (pageText list n rows page ++ drop pageSize bytes)
+    bytes

@@ -6,7 +6,8 @@ ghost use lib.Dec.{ltb};
 ghost use Rattle.lists.specs.Lists.{any};
 ghost use Rattle.sheet.specs.Page.{maxWord};
 
-// Whether a word is above 65,535: the bits of all words are gathered, so that the loop has no branch and takes several words at a time.
+// Whether a word is above 65,535: the bits of all words are gathered, so that the loop has no branch and
+// takes several words at a time.
 pub fn any_large(words: &[u32]) -> bool
     ensures { λ r. ⌜ r ≡ any (λ (w : ℕ). ltb maxWord w) (now (words .entry)) ⌝ }
 {

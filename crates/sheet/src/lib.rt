@@ -1,5 +1,5 @@
-// The sheet: one page of a list's rows as text, of 60 lines of 80 columns. `specs/` says what every byte is, when a page is refused and
-// what the pages hold together; `proofs/` has the laws.
+// The sheet: one page of a list's rows as text, of 60 lines of 80 columns. `specs/` says what every byte is,
+// when a page is refused and what the pages hold together; `proofs/` has the laws.
 mod large;
 mod lines;
 mod number;
@@ -11,7 +11,8 @@ ghost use mathlib.Core.List.{_++_};
 ghost use Prim.Native.Nat.{_-_, _≤_, min};
 ghost use lib.ListN.{length, drop};
 ghost use Rattle.lists.specs.Refusal.{refuse};
-ghost use Rattle.sheet.specs.Page.{pageRows, pageSize, maxRows, pageCount, badRows, pageText, pageAnswer, pageBytes};
+ghost use Rattle.sheet.specs.Page.{pageRows, pageSize, maxRows, pageCount, badRows};
+ghost use Rattle.sheet.specs.Page.{pageText, pageAnswer, pageBytes};
 ghost use Rattle.sheet.specs.Claims.{SheetsHoldEveryRow};
 ghost use Rattle.sheet.specs.inner.Lines.{Accepted};
 
@@ -97,7 +98,8 @@ fn rows_from(first: usize, rows: usize) -> usize
 // Writes a page that is not refused: a blank one, then its heading and its rows.
 fn put_page(list: &[u32], n: usize, rows: usize, page: usize, pages: usize, bytes: &mut [u8])
     requires { ⌜ Accepted (now list) n rows page pages (length (now bytes)) ⌝ }
-    ensures { λ _. ⌜ now (bytes .exit) ≡ pageText (now (list .entry)) n rows page ++ drop pageSize (now (bytes .entry)) ⌝ }
+    ensures { λ _. ⌜ now (bytes .exit)
+        ≡ pageText (now (list .entry)) n rows page ++ drop pageSize (now (bytes .entry)) ⌝ }
 {
     lines::put_blank_lines(bytes);
     lines::put_heading(page, pages, bytes);
@@ -112,10 +114,12 @@ fn put_page(list: &[u32], n: usize, rows: usize, page: usize, pages: usize, byte
     );
 }
 
-// Fills one page of a list of rows of n words, and answers the page count. Over all pages the bytes hold every row once, in list order.
+// Fills one page of a list of rows of n words, and answers the page count. Over all pages the bytes hold
+// every row once, in list order.
 pub fn page(list: &[u32], n: usize, rows: usize, page: usize, bytes: &mut [u8]) -> PageAnswer
     ensures answer { λ r. ⌜ r ≡ pageAnswer (now (list .entry)) n rows page (length (now (bytes .entry))) ⌝ }
-    ensures bytes { λ _. ⌜ now (bytes .exit) ≡ pageBytes (now (list .entry)) n rows page (now (bytes .entry)) ⌝ }
+    ensures bytes { λ _. ⌜ now (bytes .exit)
+        ≡ pageBytes (now (list .entry)) n rows page (now (bytes .entry)) ⌝ }
     ensures sheets { λ _. ⌜ SheetsHoldEveryRow (now (list .entry)) n rows (now (bytes .entry)) ⌝ }
 {
     let fault = rows_fault(list, n, rows);

@@ -11,7 +11,8 @@ ghost use Rattle.sheet.specs.inner.Lines.{blanks, blankLines, Fitting};
 
 // Writes numbers over blanks, from the first column on.
 pub fn put_numbers(numbers: &[u32], text: &mut [u8])
-    requires { ⌜ (numberColumns * length (now numbers) ≤ length (now text)) × (now text ≡ blanks (length (now text))) × Fitting (now numbers) ⌝ }
+    requires { ⌜ (numberColumns * length (now numbers) ≤ length (now text)) × (now text ≡ blanks (length (now text)))
+        × Fitting (now numbers) ⌝ }
     ensures { λ _. ⌜ now (text .exit) ≡ flatMap field (now (numbers .entry))
         ++ blanks (length (now (text .entry)) - numberColumns * length (now (numbers .entry))) ⌝ }
 {
@@ -30,10 +31,10 @@ fn put_blank_line(text: &mut [u8])
 {
     let mut i = 0;
     while i < PageAnswer::COLUMNS {
-        text[i] = 32;
+        text[i] = b' ';
         i += 1;
     }
-    text[PageAnswer::COLUMNS] = 10;
+    text[PageAnswer::COLUMNS] = b'\n';
 }
 
 // Writes a blank page: whatever stood in its bytes is gone.
@@ -51,8 +52,10 @@ pub fn put_blank_lines(bytes: &mut [u8])
 
 // Writes the page number and the page count over the first line, which is blank.
 pub fn put_heading(page: usize, pages: usize, bytes: &mut [u8])
-    requires { ⌜ (page < 10 ^ numberColumns) × (pages < 10 ^ numberColumns) × (take (columns + 1) (now bytes) ≡ line []) ⌝ }
-    ensures { λ _. ⌜ now (bytes .exit) ≡ line (page ∷ pages ∷ []) ++ drop (columns + 1) (now (bytes .entry)) ⌝ }
+    requires { ⌜ (page < 10 ^ numberColumns) × (pages < 10 ^ numberColumns)
+        × (take (columns + 1) (now bytes) ≡ line []) ⌝ }
+    ensures { λ _. ⌜ now (bytes .exit)
+        ≡ line (page ∷ pages ∷ []) ++ drop (columns + 1) (now (bytes .entry)) ⌝ }
 {
     let numbers = [page as u32, pages as u32];
     put_numbers(&numbers, &mut bytes[..PageAnswer::COLUMNS]);
@@ -60,9 +63,10 @@ pub fn put_heading(page: usize, pages: usize, bytes: &mut [u8])
 
 // Writes rows of n words over blank lines, a line each.
 pub fn put_rows(words: &[u32], n: usize, rows: usize, lines: &mut [u8])
-    requires { ⌜ (numberColumns * n ≤ columns) × (rows ≤ pageRows) × (length (now words) ≡ n * rows) × Fitting (now words)
-        × (now lines ≡ blankLines pageRows) ⌝ }
-    ensures { λ _. ⌜ now (lines .exit) ≡ flatMap line (rowsOf n rows (now (words .entry)) ++ replicate (pageRows - rows) []) ⌝ }
+    requires { ⌜ (numberColumns * n ≤ columns) × (rows ≤ pageRows) × (length (now words) ≡ n * rows)
+        × Fitting (now words) × (now lines ≡ blankLines pageRows) ⌝ }
+    ensures { λ _. ⌜ now (lines .exit)
+        ≡ flatMap line (rowsOf n rows (now (words .entry)) ++ replicate (pageRows - rows) []) ⌝ }
 {
     let mut i = 0;
     while i < rows {

@@ -5,9 +5,10 @@ ghost use lib.ListN.{length};
 ghost use Rattle.sheet.specs.Decimal.{decimal, aligned};
 ghost use Rattle.sheet.specs.inner.Lines.{blanks};
 
-// Writes a number right-aligned over blanks, from its last digit to its first.
+// Writes a number right-aligned over blanks, from its last digit to its first. The byte of digit 0 is 48.
 pub fn put_number(x: u32, columns: &mut [u8])
-    requires { ⌜ (0 < length (now columns)) × (x < 10 ^ length (now columns)) × (now columns ≡ blanks (length (now columns))) ⌝ }
+    requires { ⌜ (0 < length (now columns)) × (x < 10 ^ length (now columns))
+        × (now columns ≡ blanks (length (now columns))) ⌝ }
     ensures { λ _. ⌜ now (columns .exit) ≡ aligned (length (now (columns .entry))) (decimal x) ⌝ }
 {
     let mut i = columns.len();

@@ -1,4 +1,5 @@
--- What the functions that write a page ask of their words, and the blank text that they write over. Assumes nothing.
+-- What the functions that write a page ask of their words, and the blank text that they write over. Assumes
+-- nothing.
 use mathlib.Core.Path.{_≡_}
 use mathlib.Core.Bool.{true, false}
 use mathlib.Core.List.{List, [], flatMap}
