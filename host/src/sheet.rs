@@ -13,7 +13,7 @@ impl<'l> Matches<'l> {
     /// The matches on pages of text, 59 a page; no matches give one page.
     ///
     /// Each page looks at every match again, so the time for all of them grows with the square of their number: a hundred thousand
-    /// matches take a fraction of a second, a million some seconds.
+    /// matches take a fraction of a second, a million some twenty.
     pub fn pages(&self) -> Pages<'l> {
         let mut pages = Pages { matches: *self, next: 1, pages: 1 };
         pages.pages = pages.fill(1, &mut [0; PAGE_BYTES]);
