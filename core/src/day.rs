@@ -2,7 +2,7 @@
 
 use std::fmt;
 
-use crate::drawing::{is_number, number};
+use crate::text::words::{is_number, number};
 
 /// A day as the files hold it: days since 1 January 2000, in 16 bits. 0 stands for no day, so that
 /// the first date is 2 January 2000.

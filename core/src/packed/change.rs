@@ -4,9 +4,9 @@
 use std::fmt;
 use std::ops::RangeInclusive;
 
-use crate::bits::{BitReader, BitWriter};
-use crate::edge::{Edge, FileFault};
-use crate::graph::{first_fault, key, put_edge, take_edge, Graph};
+use crate::packed::bits::{BitReader, BitWriter};
+use crate::packed::edge::{Edge, FileFault};
+use crate::packed::graph::{first_fault, key, put_edge, take_edge, Graph};
 
 /// An edge that is added, or taken away.
 #[derive(Clone, Copy, Debug, PartialEq, Eq)]
@@ -47,6 +47,27 @@ impl Changes {
     pub fn new(mut changes: Vec<Change>) -> Self {
         changes.sort_by_key(|change| key(&change.edge));
         Changes { changes }
+    }
+
+    /// The edges of a graph after the changes, both ascending.
+    pub fn applied(&self, edges: &[Edge]) -> Vec<Edge> {
+        let mut after: Vec<Edge> = Vec::with_capacity(edges.len() + self.changes.len());
+        let mut changes = self.changes.iter().peekable();
+        for e in edges {
+            while let Some(change) = changes.peek().filter(|c| key(&c.edge) < key(e)) {
+                after.extend(Some(change.edge).filter(|_| change.adds));
+                changes.next();
+            }
+            match changes.peek() {
+                Some(change) if change.edge == *e => {
+                    after.extend(Some(*e).filter(|_| change.adds));
+                    changes.next();
+                }
+                _ => after.push(*e),
+            }
+        }
+        after.extend(changes.filter(|c| c.adds).map(|c| c.edge));
+        after
     }
 
     pub fn to_bytes(&self) -> Vec<u8> {
@@ -91,10 +112,11 @@ fn change(file: &mut BitReader) -> Option<Change> {
 
 /// The first rule that changes, in any order, break: they add an edge that is there, take one away
 /// that is not, or make more edges than a graph has.
-pub fn broken_rule(graph: &Graph, changes: &[Change]) -> Option<Broken> {
+pub fn broken_rule(graph: &Graph, changes: &[Change], words: &dyn Fn(&Edge) -> String) -> Option<Broken> {
     let present = |edge: &Edge| graph.edges.binary_search_by_key(&key(edge), key).is_ok();
     if let Some(i) = changes.iter().position(|c| c.adds == present(&c.edge)) {
         let Change { adds, edge } = changes[i];
+        let edge = words(&edge);
         return Some(Broken {
             change: Some(i),
             refusal: 28,

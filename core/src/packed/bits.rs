@@ -4,24 +4,36 @@
 #[derive(Default)]
 pub struct BitWriter {
     bytes: Vec<u8>,
-    bits: usize,
+    /// Bits that fill no byte yet: the low `count` bits.
+    held: u64,
+    count: u32,
 }
 
 impl BitWriter {
-    /// Appends the `width` low bits of `value`, which has no others.
-    pub fn put(&mut self, value: u32, width: u32) {
-        debug_assert!(u64::from(value) < 1 << width, "{value} in {width} bits");
-        for i in (0..width).rev() {
-            if self.bits % 8 == 0 {
-                self.bytes.push(0);
-            }
-            let bit = (value >> i & 1) as u8;
-            self.bytes[self.bits / 8] |= bit << (7 - self.bits % 8);
-            self.bits += 1;
+    /// A writer with room for so many bytes.
+    pub fn with_capacity(bytes: usize) -> Self {
+        BitWriter {
+            bytes: Vec::with_capacity(bytes),
+            ..BitWriter::default()
         }
     }
 
-    pub fn finish(self) -> Vec<u8> {
+    /// Appends the `width` low bits of `value`, which has no others.
+    pub fn put(&mut self, value: u32, width: u32) {
+        debug_assert!(u64::from(value) < 1 << width, "{value} in {width} bits");
+        self.held = self.held << width | u64::from(value);
+        self.count += width;
+        while self.count >= 8 {
+            self.count -= 8;
+            self.bytes.push((self.held >> self.count) as u8);
+        }
+        self.held &= (1 << self.count) - 1;
+    }
+
+    pub fn finish(mut self) -> Vec<u8> {
+        if self.count > 0 {
+            self.bytes.push((self.held << (8 - self.count)) as u8);
+        }
         self.bytes
     }
 }
@@ -37,29 +49,32 @@ impl<'a> BitReader<'a> {
         BitReader { bytes, at: 0 }
     }
 
-    /// The next `width` bits, or nothing if fewer are left.
+    fn left(&self) -> usize {
+        self.bytes.len() * 8 - self.at
+    }
+
+    /// The next `width` bits, 32 at most, or nothing if fewer are left.
     pub fn take(&mut self, width: u32) -> Option<u32> {
-        if self.bytes.len() * 8 - self.at < width as usize {
+        if self.left() < width as usize {
             return None;
         }
-        let mut value = 0;
-        for _ in 0..width {
-            let bit = self.bytes[self.at / 8] >> (7 - self.at % 8) & 1;
-            value = value << 1 | u32::from(bit);
-            self.at += 1;
-        }
-        Some(value)
+        let end = self.at + width as usize;
+        let held = self.bytes[self.at / 8..(end + 7) / 8]
+            .iter()
+            .fold(0u64, |held, &byte| held << 8 | u64::from(byte));
+        let below = (8 - end % 8) % 8;
+        self.at = end;
+        Some((held >> below & ((1 << width) - 1)) as u32)
     }
 
     /// A whole byte or more is left.
     pub fn is_long(&self) -> bool {
-        self.bytes.len() * 8 - self.at >= 8
+        self.left() >= 8
     }
 
     /// One of the bits left is set.
     pub fn has_fill_set(mut self) -> bool {
-        let left = self.bytes.len() * 8 - self.at;
-        (0..left).any(|_| self.take(1) == Some(1))
+        (0..self.left()).any(|_| self.take(1) == Some(1))
     }
 }
 
@@ -97,5 +112,18 @@ mod tests {
         let mut r = BitReader::new(&[0b1010_0100]);
         assert_eq!(r.take(3), Some(0b101));
         assert!(r.has_fill_set());
+    }
+
+    #[test]
+    fn whole_words_of_32_bits() {
+        let mut w = BitWriter::default();
+        w.put(1, 1);
+        w.put(u32::MAX, 32);
+        w.put(0x1234_5678, 32);
+        let bytes = w.finish();
+        let mut r = BitReader::new(&bytes);
+        assert_eq!(r.take(1), Some(1));
+        assert_eq!(r.take(32), Some(u32::MAX));
+        assert_eq!(r.take(32), Some(0x1234_5678));
     }
 }

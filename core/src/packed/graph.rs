@@ -1,45 +1,15 @@
 //! The graph file: N vertices (16 bits), M edges (20 bits), then N vertices of label (16 bits) and
 //! inspection day (16), then M edges of source (16), label (8), target (16).
 
-use std::fmt;
-
-use crate::bits::{BitReader, BitWriter};
+use crate::packed::bits::{BitReader, BitWriter};
 use crate::day::Day;
-use crate::drawing::{expected, Drawn};
-use crate::edge::{Edge, FileFault, Limits};
+use crate::packed::edge::{Edge, FileFault, Limits};
 
 /// An item: its label, and the day of its last inspection, if it has one.
 #[derive(Clone, Copy, Debug, PartialEq, Eq)]
 pub struct Vertex {
     pub label: u32,
     pub day: Day,
-}
-
-impl Drawn for Vertex {
-    const DAYS: &'static str = "day D";
-    const PAIRS: &'static str = "";
-
-    fn new(label: u32, days: &[&str]) -> Result<Self, String> {
-        let day = match *days {
-            [] => Day::NONE,
-            ["day", day] => Day::read(day)?,
-            ["inspected", _] => {
-                return Err("'inspected' is for query vertices; a graph vertex has 'day D'".into())
-            }
-            _ => return Err(expected::<Self>()),
-        };
-        Ok(Vertex { label, day })
-    }
-}
-
-impl fmt::Display for Vertex {
-    fn fmt(&self, f: &mut fmt::Formatter) -> fmt::Result {
-        write!(f, "label {}", self.label)?;
-        match self.day {
-            Day::NONE => Ok(()),
-            day => write!(f, " day {day}"),
-        }
-    }
 }
 
 /// A data graph. Its vertices are numbered from 0; the edges ascend by (source, label, target).
@@ -59,12 +29,12 @@ impl Graph {
     };
 
     pub fn new(vertices: Vec<Vertex>, mut edges: Vec<Edge>) -> Self {
-        edges.sort_by_key(key);
+        edges.sort_unstable_by_key(key);
         Graph { vertices, edges }
     }
 
     pub fn to_bytes(&self) -> Vec<u8> {
-        let mut out = BitWriter::default();
+        let mut out = BitWriter::with_capacity(5 + 4 * self.vertices.len() + 5 * self.edges.len());
         out.put(self.vertices.len() as u32, 16);
         out.put(self.edges.len() as u32, 20);
         for v in &self.vertices {

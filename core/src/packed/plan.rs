@@ -3,9 +3,9 @@
 
 use std::ops::RangeInclusive;
 
-use crate::bits::{BitReader, BitWriter};
-use crate::edge::FileFault;
-use crate::query::Query;
+use crate::packed::bits::{BitReader, BitWriter};
+use crate::packed::edge::FileFault;
+use crate::packed::query::Query;
 
 #[derive(Clone, Copy, Debug, PartialEq, Eq)]
 pub enum Operator {

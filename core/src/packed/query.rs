@@ -2,13 +2,10 @@
 //! day (16) and last day (16), then m edges of from (3), to (3), label (8), then a pair count (4)
 //! and pairs of low (3), high (3).
 
-use std::fmt;
-
-use crate::bits::{BitReader, BitWriter};
+use crate::packed::bits::{BitReader, BitWriter};
 use crate::day::{Day, Days};
-use crate::drawing::{expected, Drawn};
-use crate::edge::{Edge, FileFault, Limits};
-use crate::pair::{first_fault, Pair};
+use crate::packed::edge::{Edge, FileFault, Limits};
+use crate::packed::pair::{first_fault, Pair};
 
 /// What an item has to be: of this label, where 0 fits every one, and last inspected on one of
 /// these days.
@@ -16,35 +13,6 @@ use crate::pair::{first_fault, Pair};
 pub struct Vertex {
     pub label: u32,
     pub days: Days,
-}
-
-impl Drawn for Vertex {
-    const DAYS: &'static str = "inspected FIRST..LAST";
-    const PAIRS: &'static str = "; or a pair 'A < B'";
-
-    fn new(label: u32, days: &[&str]) -> Result<Self, String> {
-        let days = match *days {
-            [] => Days::ALL,
-            ["inspected", days] => Days::read(days)?,
-            ["day", _] => {
-                return Err("'day' is for graph vertices; a query vertex has \
-                            'inspected FIRST..LAST'"
-                    .into())
-            }
-            _ => return Err(expected::<Self>()),
-        };
-        Ok(Vertex { label, days })
-    }
-}
-
-impl fmt::Display for Vertex {
-    fn fmt(&self, f: &mut fmt::Formatter) -> fmt::Result {
-        write!(f, "label {}", self.label)?;
-        match self.days {
-            Days::ALL => Ok(()),
-            days => write!(f, " inspected {days}"),
-        }
-    }
 }
 
 /// A pattern. Its vertices are numbered from 0; an edge of label 0 fits every data edge; the edges

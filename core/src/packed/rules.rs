@@ -1,8 +1,8 @@
 //! What well-formed files are refused for: an unconnected query and the rules of a plan.
 
-use crate::edge::Edge;
-use crate::plan::{Operator, Plan};
-use crate::query::Query;
+use crate::packed::edge::Edge;
+use crate::packed::plan::{Operator, Plan};
+use crate::packed::query::Query;
 
 /// A broken rule, with the number that the engine refuses it with.
 #[derive(Debug, PartialEq, Eq)]
@@ -46,11 +46,17 @@ pub fn is_connected(query: &Query) -> bool {
     seen == all(query)
 }
 
+/// How vertices and edges of a query are spoken of.
+pub struct Spelling<'a> {
+    pub vertex: &'a dyn Fn(u32) -> String,
+    pub edge: &'a dyn Fn(&Edge) -> String,
+}
+
 /// The first rule that a plan breaks.
-pub fn broken_rule(query: &Query, plan: &Plan) -> Option<Broken> {
+pub fn broken_rule(query: &Query, plan: &Plan, spelling: &Spelling) -> Option<Broken> {
     let mut pile = Vec::new();
     for (i, &operator) in plan.operators.iter().enumerate() {
-        if let Err((refusal, reason)) = step(query, operator, &mut pile) {
+        if let Err((refusal, reason)) = step(query, operator, &mut pile, spelling) {
             return Some(Broken {
                 operator: Some(i),
                 refusal,
@@ -62,7 +68,7 @@ pub fn broken_rule(query: &Query, plan: &Plan) -> Option<Broken> {
         [covered] if covered == all(query) => return None,
         [covered] => {
             let v = (all(query) & !covered).trailing_zeros();
-            (18, format!("vertex {v} is not covered"))
+            (18, format!("vertex {} is not covered", (spelling.vertex)(v)))
         }
         _ => (15, format!("{} results are left over", pile.len())),
     };
@@ -76,19 +82,19 @@ pub fn broken_rule(query: &Query, plan: &Plan) -> Option<Broken> {
 type Step = Result<(), (u8, String)>;
 
 /// One operator on the pile of the sets that its results cover.
-fn step(query: &Query, operator: Operator, pile: &mut Vec<VertexSet>) -> Step {
+fn step(query: &Query, operator: Operator, pile: &mut Vec<VertexSet>, spelling: &Spelling) -> Step {
     match operator {
         Operator::Scan(i) => pile.push(ends(&query.edges[i as usize])),
         Operator::Extend(v) => match pile.last_mut() {
             Some(covered) => {
-                extendable(query, v, *covered)?;
+                extendable(query, v, *covered, spelling)?;
                 *covered |= bit(v);
             }
             None => return Err((15, "extend has no result to extend".into())),
         },
         Operator::Join => match (pile.pop(), pile.pop()) {
             (Some(probe), Some(build)) => {
-                joinable(query, build, probe)?;
+                joinable(query, build, probe, spelling)?;
                 pile.push(build | probe);
             }
             _ => return Err((15, "join needs two results".into())),
@@ -97,21 +103,21 @@ fn step(query: &Query, operator: Operator, pile: &mut Vec<VertexSet>) -> Step {
     Ok(())
 }
 
-fn extendable(query: &Query, v: u32, covered: VertexSet) -> Step {
+fn extendable(query: &Query, v: u32, covered: VertexSet, spelling: &Spelling) -> Step {
     if covered & bit(v) != 0 {
-        return Err((16, format!("vertex {v} is covered already")));
+        return Err((16, format!("vertex {} is covered already", (spelling.vertex)(v))));
     }
     let joins = |e: &Edge| ends(e) & bit(v) != 0 && ends(e) & covered != 0;
     if !query.edges.iter().any(joins) {
         return Err((
             16,
-            format!("no query edge joins vertex {v} to a covered one"),
+            format!("no query edge joins vertex {} to a covered one", (spelling.vertex)(v)),
         ));
     }
     Ok(())
 }
 
-fn joinable(query: &Query, build: VertexSet, probe: VertexSet) -> Step {
+fn joinable(query: &Query, build: VertexSet, probe: VertexSet, spelling: &Spelling) -> Step {
     if build & probe == 0 {
         return Err((17, "the two results share no vertex".into()));
     }
@@ -120,7 +126,7 @@ fn joinable(query: &Query, build: VertexSet, probe: VertexSet) -> Step {
     }
     let lost = |e: &&Edge| inside(build | probe, e) && !inside(build, e) && !inside(probe, e);
     match query.edges.iter().find(lost) {
-        Some(e) => Err((17, format!("query edge {e} lies within neither result"))),
+        Some(e) => Err((17, format!("query edge {} lies within neither result", (spelling.edge)(e)))),
         None => Ok(()),
     }
 }
@@ -129,7 +135,7 @@ fn joinable(query: &Query, build: VertexSet, probe: VertexSet) -> Step {
 mod tests {
     use super::*;
     use crate::day::Days;
-    use crate::query::Vertex;
+    use crate::packed::query::Vertex;
     use Operator::{Extend, Join, Scan};
 
     fn query(n: usize, pairs: &[(u32, u32)]) -> Query {
@@ -154,7 +160,8 @@ mod tests {
         let plan = Plan {
             operators: operators.to_vec(),
         };
-        broken_rule(query, &plan).map(|b| (b.operator, b.refusal))
+        let spelling = Spelling { vertex: &|v| v.to_string(), edge: &|e| e.to_string() };
+        broken_rule(query, &plan, &spelling).map(|b| (b.operator, b.refusal))
     }
 
     #[test]

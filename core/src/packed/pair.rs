@@ -2,7 +2,7 @@
 
 use std::fmt;
 
-use crate::edge::FileFault;
+use crate::packed::edge::FileFault;
 
 /// What stands between the vertices of a pair in the text form.
 pub const BELOW: &str = "<";

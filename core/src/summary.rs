@@ -1,0 +1,45 @@
+//! How many items and connections of each kind there are.
+
+use std::collections::BTreeMap;
+
+use crate::document::Document;
+
+/// Counts by kind, most first.
+#[derive(Clone, Debug, Default)]
+pub struct Summary {
+    pub items: usize,
+    pub connections: usize,
+    pub item_kinds: Vec<(String, usize)>,
+    pub connection_kinds: Vec<(String, usize)>,
+}
+
+impl Summary {
+    pub fn of(document: &Document) -> Summary {
+        let graph = match &document.hang {
+            Some(hang) => &hang.graph,
+            None => return Summary::default(),
+        };
+        let item = |label: u32| match label {
+            0 => "without kind".to_string(),
+            _ => document.item_kind(label).into_owned(),
+        };
+        Summary {
+            items: graph.vertices.len(),
+            connections: graph.edges.len(),
+            item_kinds: counts(graph.vertices.iter().map(|v| v.label), item),
+            connection_kinds: counts(graph.edges.iter().map(|e| e.label), |label| {
+                document.connection_kind(label).into_owned()
+            }),
+        }
+    }
+}
+
+fn counts(labels: impl Iterator<Item = u32>, name: impl Fn(u32) -> String) -> Vec<(String, usize)> {
+    let mut counts = BTreeMap::new();
+    for label in labels {
+        *counts.entry(label).or_insert(0) += 1;
+    }
+    let mut counts: Vec<(String, usize)> = counts.into_iter().map(|(label, count)| (name(label), count)).collect();
+    counts.sort_by(|a, b| b.1.cmp(&a.1));
+    counts
+}
