@@ -9,14 +9,17 @@ pub mod find;
 pub mod json;
 pub mod kinds;
 pub mod names;
+pub mod names_file;
 pub mod near;
 pub mod packed;
+pub mod packing;
 pub mod source;
 pub mod summary;
 pub mod symmetry;
 pub mod text;
 pub mod verify;
 pub mod why;
+pub mod write;
 
 pub use document::{Document, Pattern};
 pub use engine::Engine;

@@ -14,6 +14,7 @@ mod table;
 
 use crate::document::Document;
 use crate::source::{Source, Text};
+pub use draft::expect as draft_expect;
 use draft::Draft;
 use fault::{Faults, Sorted};
 
