@@ -15,7 +15,7 @@ pub fn places(count: usize) -> String {
 }
 
 /// The columns of the terminal that standard output is, if it is one.
-fn terminal() -> Option<usize> {
+pub fn terminal() -> Option<usize> {
     if !io::stdout().is_terminal() {
         return None;
     }

@@ -1,6 +1,8 @@
 //! `rizhavaan`: every place where a pattern occurs in a rig.
 
 mod args;
+mod check;
+mod diff;
 mod engine;
 mod faults;
 mod files;
@@ -10,13 +12,15 @@ mod memory;
 mod output;
 mod packed;
 mod progress;
+mod show;
 mod stop;
+mod tables;
 
 use std::io::ErrorKind;
 use std::process::ExitCode;
 
 use args::{Arguments, Command};
-use clap::Parser;
+use clap::{CommandFactory, Parser};
 use output::tell;
 use stop::Stop;
 
@@ -28,7 +32,18 @@ fn main() -> ExitCode {
         Command::Find(arguments) => find::run(arguments),
         Command::Pack(arguments) => packed::pack(arguments),
         Command::Unpack(arguments) => packed::run_unpack(arguments),
-        _ => Err(Stop::Because("not yet".into())),
+        Command::Check(arguments) => check::run(arguments),
+        Command::Diff(arguments) => diff::run(arguments),
+        Command::Explain(arguments) => show::explain(arguments),
+        Command::Picture(arguments) => show::picture(arguments),
+        Command::Sql(arguments) => show::sql(arguments),
+        Command::Import(arguments) => tables::import(arguments),
+        Command::Export(arguments) => tables::export(arguments),
+        Command::Completion { shell } => {
+            let mut script = Vec::new();
+            clap_complete::generate(*shell, &mut Arguments::command(), "rizhavaan", &mut script);
+            output::write_all(None, &script).map(|()| 0)
+        }
     };
     ExitCode::from(result.unwrap_or_else(|stop| {
         say(&stop);

@@ -105,10 +105,15 @@ impl Hang {
 
     /// The item of a name, or of a number where it has no name.
     pub fn find(&self, name: &str) -> Option<u32> {
-        self.names.find(name).or_else(|| {
-            let number: u32 = name.parse().ok()?;
-            let is_item = (number as usize) < self.names.len() && self.names.get(number).is_none();
-            is_item.then_some(number)
+        Hang::find_in(&self.names, name)
+    }
+
+    /// The thing of a name, or of a number where it has no name.
+    pub fn find_in(names: &Names, name: &str) -> Option<u32> {
+        names.find(name).or_else(|| {
+            let number = name.parse().ok().filter(|n: &u32| n.to_string() == name)?;
+            let is_unnamed = (number as usize) < names.len() && names.get(number).is_none();
+            is_unnamed.then_some(number)
         })
     }
 }

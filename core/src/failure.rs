@@ -31,6 +31,7 @@ impl Failure {
 
 /// A size in the unit that a person would use.
 pub fn size(bytes: usize) -> String {
+    let bytes = bytes as u64;
     match bytes {
         0..=9_999 => format!("{bytes} bytes"),
         10_000..=9_999_999 => format!("{} KB", bytes / 1_000),

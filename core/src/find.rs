@@ -207,7 +207,7 @@ impl<'d> Loaded<'d> {
 }
 
 /// The query with pairs that leave each place once, and these pairs.
-fn once(pattern: &Pattern) -> Result<(Query, Vec<Pair>), Failure> {
+pub fn once(pattern: &Pattern) -> Result<(Query, Vec<Pair>), Failure> {
     let added = symmetry::pairs(&pattern.query);
     let mut query = pattern.query.clone();
     query.pairs.extend(&added);

@@ -2,8 +2,10 @@
 //! nothing: a shell hands over [`Source`]s and an [`Engine`], and is handed answers, or faults with their places.
 
 pub mod day;
+pub mod diff;
 pub mod document;
 pub mod engine;
+pub mod explain;
 pub mod failure;
 pub mod find;
 pub mod json;
@@ -13,9 +15,12 @@ pub mod names_file;
 pub mod near;
 pub mod packed;
 pub mod packing;
+pub mod picture;
 pub mod source;
+pub mod sql;
 pub mod summary;
 pub mod symmetry;
+pub mod tables;
 pub mod text;
 pub mod verify;
 pub mod why;

@@ -110,6 +110,7 @@ pub fn apply(document: &mut Document, text: &str) -> Result<(), String> {
     if let Some(hang) = &mut document.hang {
         hang.names = items.names()?;
         hang.numbered_days = items.numbered;
+        hang.numbered_days.sort_unstable();
         for (item, column, value) in items.notes {
             let columns = &mut hang.notes.columns;
             let i = columns.iter().position(|c| *c == column).unwrap_or_else(|| {
@@ -118,10 +119,12 @@ pub fn apply(document: &mut Document, text: &str) -> Result<(), String> {
             });
             hang.notes.notes.push((item, i as u32, value));
         }
+        hang.notes.notes.sort();
     }
     if let Some(p) = document.patterns.first_mut() {
         p.names = vertices.names()?;
         p.numbered_days = vertices.numbered;
+        p.numbered_days.sort_unstable();
     }
     Ok(())
 }

@@ -135,7 +135,8 @@ fn one_line(value: &str) -> String {
     value.split(|c: char| c.is_control()).filter(|part| !part.is_empty()).collect::<Vec<_>>().join(" ")
 }
 
-fn pattern(out: &mut String, document: &Document, p: &Pattern) {
+/// A `[query]` and its `[plan]`.
+pub fn pattern(out: &mut String, document: &Document, p: &Pattern) {
     let sentence = p.sentence.as_ref().map_or_else(String::new, |s| format!(" # {s}"));
     match &p.name {
         Some(name) => line(out, &format!("[query {}]{sentence}", head_name(name))),

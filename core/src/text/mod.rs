@@ -3,6 +3,7 @@
 pub mod fault;
 pub mod words;
 
+mod cells;
 mod draft;
 mod hang;
 mod kinds;
