@@ -1,28 +1,28 @@
 //! The proved engine, by the wrapper of its static library.
 
 use rizhavaan_core::engine::{Answer, Engine, Record, Refusal};
-use trace::Cache;
+use library::Cache;
 
 /// The static library.
 pub struct Library;
 
-fn refused(refusal: trace::Refusal) -> Refusal {
+fn refused(refusal: library::Refusal) -> Refusal {
     Refusal(refusal.number())
 }
 
 impl Engine for Library {
     fn load(&self, file: &[u8], store: &mut [u32]) -> Result<(u64, u64), Refusal> {
-        let loaded = trace::load_into(file, store).map_err(refused)?;
+        let loaded = library::load_into(file, store).map_err(refused)?;
         Ok((loaded.vertices as u64, loaded.edges as u64))
     }
 
     fn apply_changes(&self, old: &[u32], changes: &[u8], store: &mut [u32]) -> Result<(u64, u64), Refusal> {
-        let edited = trace::apply_changes_into(old, changes, store).map_err(refused)?;
+        let edited = library::apply_changes_into(old, changes, store).map_err(refused)?;
         Ok((edited.vertices as u64, edited.edges as u64))
     }
 
     fn draw_plan(&self, store: &[u32], query: &[u8], plan: &mut [u8]) -> Result<u64, Refusal> {
-        trace::draw_plan_into(store, query, plan).map(|bytes| bytes as u64).map_err(refused)
+        library::draw_plan_into(store, query, plan).map(|bytes| bytes as u64).map_err(refused)
     }
 
     fn run(
@@ -34,8 +34,8 @@ impl Engine for Library {
         list: &mut [u32],
         records: &mut [Record],
     ) -> Result<Answer, Refusal> {
-        let mut lent = vec![trace::Record::default(); records.len()];
-        let ran = trace::run(store, query, plan, Cache::On, scratch, list, &mut lent).map_err(refused)?;
+        let mut lent = vec![library::Record::default(); records.len()];
+        let ran = library::run(store, query, plan, Cache::On, scratch, list, &mut lent).map_err(refused)?;
         for (record, lent) in records.iter_mut().zip(lent) {
             *record = Record { rows: lent.rows, cost: lent.cost };
         }
