@@ -1,5 +1,7 @@
 //! From a document to the places of its patterns.
 
+use std::borrow::Cow;
+
 use crate::document::{Document, Hang, Pattern};
 use crate::engine::{run_growing, store_words, Engine, Record, Refusal, MAX_DRAWN_BYTES};
 use crate::failure::Failure;
@@ -46,7 +48,7 @@ pub struct Loaded<'d> {
     pub hang: &'d Hang,
     store: Vec<u32>,
     /// The connections that the store has.
-    edges: Vec<Edge>,
+    edges: Cow<'d, [Edge]>,
 }
 
 /// The places of a pattern.
@@ -101,7 +103,7 @@ impl<'d> Loaded<'d> {
         if counts != (n as u64, m as u64) {
             return Err(Failure::Check(format!("of {n} items and {m} connections the engine loaded {counts:?}")));
         }
-        Ok(Loaded { document, hang, store, edges: hang.graph.edges.clone() })
+        Ok(Loaded { document, hang, store, edges: Cow::Borrowed(&hang.graph.edges) })
     }
 
     /// The hang after the changes of the document.
@@ -127,12 +129,12 @@ impl<'d> Loaded<'d> {
         if counts != expected {
             return Err(Failure::Check(format!("the changed hang has {counts:?} items and connections, not {expected:?}")));
         }
-        Ok(Loaded { document, hang: self.hang, store, edges })
+        Ok(Loaded { document, hang: self.hang, store, edges: Cow::Owned(edges) })
     }
 
     /// The graph that was loaded.
     pub fn graph(&self) -> Graph {
-        Graph { vertices: self.hang.graph.vertices.clone(), edges: self.edges.clone() }
+        Graph { vertices: self.hang.graph.vertices.clone(), edges: self.edges.to_vec() }
     }
 
     pub fn edges(&self) -> &[Edge] {

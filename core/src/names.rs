@@ -1,8 +1,6 @@
 //! Names by number, and numbers by name.
 
-use std::collections::hash_map::DefaultHasher;
 use std::fmt;
-use std::hash::Hasher;
 
 /// A list of things, some of which have names; no two have the same.
 #[derive(Clone, Default)]
@@ -11,9 +9,16 @@ pub struct Names {
     text: String,
     /// Where each name begins and ends; the same place for one without a name.
     spans: Vec<(u32, u32)>,
-    /// A table by hash: a number plus one, or 0.
-    table: Vec<u32>,
+    /// A table by hash.
+    table: Vec<Entry>,
     named: usize,
+}
+
+/// A name in the table: its hash, and its number plus one, or 0 for none.
+#[derive(Clone, Copy, Default)]
+struct Entry {
+    hash: u32,
+    next: u32,
 }
 
 impl Names {
@@ -36,10 +41,10 @@ impl Names {
     }
 
     pub fn find(&self, name: &str) -> Option<u32> {
-        match self.slot(name) {
-            Some(slot) => self.table[slot].checked_sub(1),
-            None => None,
+        if self.table.is_empty() {
+            return None;
         }
+        self.table[self.slot(name, hash(name))].next.checked_sub(1)
     }
 
     /// Adds things without names.
@@ -52,12 +57,13 @@ impl Names {
         if (self.named + 1) * 2 > self.table.len() {
             self.grow();
         }
-        let slot = self.slot(name).unwrap_or_default();
-        if let Some(number) = self.table[slot].checked_sub(1) {
+        let hash = hash(name);
+        let slot = self.slot(name, hash);
+        if let Some(number) = self.table[slot].next.checked_sub(1) {
             return Err(number);
         }
         let number = self.spans.len() as u32;
-        self.table[slot] = number + 1;
+        self.table[slot] = Entry { hash, next: number + 1 };
         let start = self.text.len() as u32;
         self.text.push_str(name);
         self.spans.push((start, self.text.len() as u32));
@@ -78,39 +84,46 @@ impl Names {
         (0..self.spans.len() as u32).filter_map(move |i| self.get(i).map(|name| (i, name)))
     }
 
-    /// Where a name stands in the table, or would.
-    fn slot(&self, name: &str) -> Option<usize> {
-        if self.table.is_empty() {
-            return None;
-        }
+    /// Where a name of a hash stands in the table, or would.
+    fn slot(&self, name: &str, hash: u32) -> usize {
         let mask = self.table.len() - 1;
-        let mut slot = hash(name) as usize & mask;
+        let mut slot = hash as usize & mask;
         loop {
-            match self.table[slot].checked_sub(1) {
-                Some(number) if self.get(number) != Some(name) => slot = (slot + 1) & mask,
-                _ => return Some(slot),
+            let entry = self.table[slot];
+            let is_other = |entry: Entry| entry.hash != hash || self.get(entry.next - 1) != Some(name);
+            if entry.next == 0 || !is_other(entry) {
+                return slot;
             }
+            slot = (slot + 1) & mask;
         }
     }
 
     fn grow(&mut self) {
         let size = (2 * self.table.len()).max(16);
-        let mut table = vec![0; size];
-        for (number, name) in self.iter() {
-            let mut slot = hash(name) as usize & (size - 1);
-            while table[slot] != 0 {
+        let mut table = vec![Entry::default(); size];
+        for entry in self.table.iter().filter(|entry| entry.next != 0) {
+            let mut slot = entry.hash as usize & (size - 1);
+            while table[slot].next != 0 {
                 slot = (slot + 1) & (size - 1);
             }
-            table[slot] = number + 1;
+            table[slot] = *entry;
         }
         self.table = table;
     }
 }
 
-fn hash(name: &str) -> u64 {
-    let mut hasher = DefaultHasher::new();
-    hasher.write(name.as_bytes());
-    hasher.finish()
+/// A hash of a name: eight bytes at a time, multiplied and folded.
+fn hash(name: &str) -> u32 {
+    const FACTOR: u64 = 0x9e37_79b9_7f4a_7c15;
+    let bytes = name.as_bytes();
+    let mut state = FACTOR ^ bytes.len() as u64;
+    for part in bytes.chunks(8) {
+        let mut word = [0; 8];
+        word[..part.len()].copy_from_slice(part);
+        state = (state ^ u64::from_le_bytes(word)).wrapping_mul(FACTOR);
+        state ^= state >> 29;
+    }
+    (state.wrapping_mul(FACTOR) >> 32) as u32
 }
 
 impl PartialEq for Names {

@@ -89,7 +89,7 @@ impl Draft<'_> {
         });
         Some(Hang {
             graph: Graph { vertices: vertices.collect(), edges },
-            names: self.names.clone(),
+            names: std::mem::take(&mut self.names),
             numbered_days: std::mem::take(&mut self.numbered_days),
             notes: std::mem::take(&mut self.notes),
             from_tables: self.from_tables,
@@ -100,8 +100,18 @@ impl Draft<'_> {
     fn resolve_edges(&mut self) -> Vec<Edge> {
         let drafts = std::mem::take(&mut self.edges);
         let mut keys: Vec<(u64, u32)> = Vec::with_capacity(drafts.len());
+        // Lines of one source often stand together.
+        let mut last: Option<(&str, u32)> = None;
         for (i, draft) in drafts.iter().enumerate() {
-            let source = self.end(draft, draft.source);
+            let source = match (draft.source, last) {
+                (End::Word(word), Some((raw, item))) if word.form == Form::Bare && word.raw(self.source(draft.text)) == raw => {
+                    Some(item)
+                }
+                (end, _) => self.end(draft, end),
+            };
+            if let (End::Word(word), Some(item)) = (draft.source, source) {
+                last = Some((word.raw(self.source(draft.text)), item)).filter(|_| word.form == Form::Bare);
+            }
             let target = self.end(draft, draft.target);
             if let (Some(source), Some(target)) = (source, target) {
                 let label = self.connection_kinds.number(draft.kind);
@@ -141,10 +151,11 @@ impl Draft<'_> {
             Some(block) => block,
             None => return,
         };
-        let hang = match document.hang.take() {
+        let mut hang = match document.hang.take() {
             Some(hang) => hang,
             None => return self.error(block.head, "[changes] need their [graph]"),
         };
+        self.names = std::mem::take(&mut hang.names);
         let mut changes = Vec::new();
         let mut places = Vec::new();
         let mut seen = HashMap::new();
@@ -166,6 +177,7 @@ impl Draft<'_> {
         if changes.len() > most {
             self.error(places[most], format!("more than {most} changes"));
         }
+        hang.names = std::mem::take(&mut self.names);
         let words = |e: &Edge| document.hang_edge(&hang, e);
         document.changes_fault = change::broken_rule(&hang.graph, &changes, &words).map(|broken| {
             let at = broken.change.map_or(block.head, |i| places[i]);

@@ -119,13 +119,11 @@ fn item(draft: &mut Draft, text: u32, name: Word, rest: &[Word]) {
     let at = place(text, name);
     if let Some(reason) = bare_name_fault(name, &spelled) {
         draft.error(at, reason);
-    } else if let Some(first) = draft.names.find(&spelled) {
-        draft.error(at, format!("'{spelled}' is the name of vertex {first} already"));
     } else {
         if is_number(&spelled) {
             draft.digit_names.push((draft.items.len() as u32, at));
         }
-        items(draft, text, Some(&spelled), 1, rest);
+        items(draft, text, Some((&spelled, at)), 1, rest);
     }
 }
 
@@ -138,15 +136,20 @@ pub fn bare_name_fault(word: Word, spelled: &str) -> Option<String> {
 }
 
 /// Adds items that the words after their name or count describe.
-fn items(draft: &mut Draft, text: u32, name: Option<&str>, count: u32, rest: &[Word]) {
+fn items(draft: &mut Draft, text: u32, name: Option<(&str, Place)>, count: u32, rest: &[Word]) {
     let first = draft.items.len();
     let most = *Graph::LIMITS.vertices.end();
     let described = describe(draft, text, rest);
     if count as usize > most - first {
-        return draft.error(span(text, rest), format!("more than {most} vertices"));
+        let at = name.map_or_else(|| span(text, rest), |(_, at)| at);
+        return draft.error(at, format!("more than {most} vertices"));
     }
     match name {
-        Some(name) => drop(draft.names.add(name)),
+        Some((name, at)) => {
+            if let Err(first) = draft.names.add(name) {
+                return draft.error(at, format!("'{name}' is the name of vertex {first} already"));
+            }
+        }
         None => draft.names.add_unnamed(count as usize),
     }
     let item = described.unwrap_or(DraftItem { kind: None, day: Day::NONE });

@@ -85,11 +85,18 @@ pub fn split(source: &str, start: usize, end: usize, words: &mut Vec<Word>) -> R
     Ok(None)
 }
 
+/// A byte of ASCII that is a blank.
+#[inline]
+fn is_blank(byte: u8) -> bool {
+    matches!(byte, b' ' | 9..=13)
+}
+
 /// How many bytes the blank at a place has, if there is one.
+#[inline]
 fn blank_at(source: &str, at: usize, end: usize) -> Option<usize> {
     let byte = source.as_bytes()[at];
     if byte < 0x80 {
-        return byte.is_ascii_whitespace().then_some(1);
+        return is_blank(byte).then_some(1);
     }
     let c = source[at..end].chars().next()?;
     c.is_whitespace().then(|| c.len_utf8())
@@ -102,10 +109,17 @@ fn word(form: Form, start: usize, end: usize) -> Word {
 fn bare(source: &str, start: usize, end: usize, words: &mut Vec<Word>) -> usize {
     let bytes = source.as_bytes();
     let mut at = start;
-    while at < end && bytes[at] != b'#' && blank_at(source, at, end).is_none() {
-        at += 1;
-        while at < end && !source.is_char_boundary(at) {
+    while at < end {
+        let byte = bytes[at];
+        if byte < 0x80 {
+            if byte == b'#' || is_blank(byte) {
+                break;
+            }
             at += 1;
+        } else if blank_at(source, at, end).is_some() {
+            break;
+        } else {
+            at += source[at..end].chars().next().map_or(1, char::len_utf8);
         }
     }
     let text = &source[start..at];
