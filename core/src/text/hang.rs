@@ -11,7 +11,7 @@ use crate::packed::edge::{Edge, ANY, EDGE_LABELS};
 use crate::packed::graph::{Graph, Vertex};
 use crate::text::draft::{Block, Draft, DraftEdge, End, Line};
 use crate::text::fault::{Fault, Place};
-use crate::text::lines::place;
+use crate::text::lines::{no_form, place};
 use crate::text::words::{is_number, number, Form, Word};
 
 /// Why a word is no item.
@@ -191,6 +191,10 @@ impl Draft<'_> {
         let source = self.source(block.text);
         let (sign, from, arrow, to) = match line.words[..] {
             [sign, from, arrow, to] if arrow.is_arrow() && from.is_name() && to.is_name() => (sign, from, arrow, to),
+            [_, from, arrow, to] => {
+                no_form(self, block.text, &[from, arrow, to], EXPECTED_CHANGE);
+                return None;
+            }
             _ => {
                 self.error(block.place(line), EXPECTED_CHANGE);
                 return None;
@@ -241,7 +245,7 @@ impl Draft<'_> {
             (false, true) => format!("no {what} of kind '{name}' is in the hang"),
             (false, false) => format!("no kind of {what} '{name}' is known: there is no hang, and no [kinds]"),
         };
-        self.unknown(at, reason, name, kinds.iter().map(|(name, _)| name));
+        self.unknown(at, reason, name, kinds.iter().map(|(name, _)| name).chain(Some(ANY)));
     }
 
     /// Adds a note to an item.

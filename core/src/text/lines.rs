@@ -75,7 +75,7 @@ pub fn graph(draft: &mut Draft, text: u32, words: &[Word]) {
         [name, colon, ref rest @ ..] if name.is_name() && colon.form == Form::Colon => item(draft, text, name, rest),
         [vertices, count, ref rest @ ..] if vertices.is(source, "vertices") && count.is_name() => {
             match number("count", &count.text(source), 0..=u32::MAX) {
-                Ok(count) => items(draft, text, None, count, rest),
+                Ok(count) => items(draft, text, Err(span(text, words)), count, rest),
                 Err(reason) => draft.error(place(text, count), reason),
             }
         }
@@ -123,7 +123,7 @@ fn item(draft: &mut Draft, text: u32, name: Word, rest: &[Word]) {
         if is_number(&spelled) {
             draft.digit_names.push((draft.items.len() as u32, at));
         }
-        items(draft, text, Some((&spelled, at)), 1, rest);
+        items(draft, text, Ok((&spelled, at)), 1, rest);
     }
 }
 
@@ -135,22 +135,22 @@ pub fn bare_name_fault(word: Word, spelled: &str) -> Option<String> {
     name_fault(spelled).map(str::to_string)
 }
 
-/// Adds items that the words after their name or count describe.
-fn items(draft: &mut Draft, text: u32, name: Option<(&str, Place)>, count: u32, rest: &[Word]) {
+/// Adds items that the words after their name or count describe: one of a name, or several of a line.
+fn items(draft: &mut Draft, text: u32, name: Result<(&str, Place), Place>, count: u32, rest: &[Word]) {
     let first = draft.items.len();
     let most = *Graph::LIMITS.vertices.end();
     let described = describe(draft, text, rest);
     if count as usize > most - first {
-        let at = name.map_or_else(|| span(text, rest), |(_, at)| at);
+        let at = name.map_or_else(|at| at, |(_, at)| at);
         return draft.error(at, format!("more than {most} vertices"));
     }
     match name {
-        Some((name, at)) => {
+        Ok((name, at)) => {
             if let Err(first) = draft.names.add(name) {
                 return draft.error(at, format!("'{name}' is the name of vertex {first} already"));
             }
         }
-        None => draft.names.add_unnamed(count as usize),
+        Err(_) => draft.names.add_unnamed(count as usize),
     }
     let item = described.unwrap_or(DraftItem { kind: None, day: Day::NONE });
     draft.items.resize(first + count as usize, item);
@@ -212,6 +212,11 @@ pub fn split_kind<'w>(draft: &mut Draft, text: u32, rest: &'w [Word]) -> Option<
         [word, ..] if word.form == Form::Bare && is_number(word.raw(source)) => {
             let fault = Fault::error(place(text, word), "a number by itself is no kind");
             draft.faults.push(fault.help(format!("for the kind of this number write 'label {}'", word.raw(source))));
+            None
+        }
+        [word, ..] if word.form == Form::Bare && Day::read(word.raw(source)).is_ok() => {
+            let fault = Fault::error(place(text, word), "a date by itself is no kind");
+            draft.faults.push(fault.help(format!("for a day write 'day {}'", word.raw(source))));
             None
         }
         [word, ref more @ ..] if word.is_name() && !word.is(source, "label") => Some((Some(word), more)),

@@ -19,7 +19,8 @@ struct Sketch<'b> {
     pattern: Pattern,
     edges: Vec<(Edge, Place)>,
     pairs: Vec<(Pair, Place)>,
-    is_broken: bool,
+    /// How many errors there were before it.
+    errors: usize,
 }
 
 impl Draft<'_> {
@@ -51,7 +52,7 @@ impl Draft<'_> {
             },
             edges: Vec::new(),
             pairs: Vec::new(),
-            is_broken: false,
+            errors: self.faults.errors(),
         };
         // Vertices first, so that a connection may stand above them.
         let rest: Vec<&Line> = block.lines.iter().filter(|line| !self.vertex_line(document, &mut sketch, line)).collect();
@@ -78,7 +79,7 @@ impl Draft<'_> {
                     Err(reason) => self.error(place(text, count), reason),
                 }
             }
-            [word, ref rest @ ..] if word.is(source, "expect") && !rest.iter().any(Word::is_arrow) => {
+            [word, ref rest @ ..] if word.is(source, "expect") && !is_about(source, rest) => {
                 let words: Vec<&str> = rest.iter().map(|w| w.raw(source)).collect();
                 match (expect(&words), sketch.pattern.expect) {
                     (Some(expect), None) => sketch.pattern.expect = Some(expect),
@@ -109,7 +110,6 @@ impl Draft<'_> {
 
     fn vertices(&mut self, document: &Document, sketch: &mut Sketch, name: Option<&str>, count: u32, rest: &[Word], at: Place) {
         let described = self.describe_vertex(document, sketch.block.text, rest);
-        sketch.is_broken |= described.is_none();
         let (vertex, numbered) = described.unwrap_or((Vertex { label: 0, days: Days::ALL }, false));
         let first = sketch.pattern.query.vertices.len();
         let most = *Query::LIMITS.vertices.end();
@@ -187,9 +187,8 @@ impl Draft<'_> {
                 let source_end = self.find_vertex(names, text, from);
                 let label = self.find_label(document, text, arrow, true);
                 let target = self.find_vertex(names, text, to);
-                match (source_end, label, target) {
-                    (Some(source), Some(label), Some(target)) => self.add_edge(sketch, Edge { source, label, target }, at),
-                    _ => sketch.is_broken = true,
+                if let (Some(source), Some(label), Some(target)) = (source_end, label, target) {
+                    self.add_edge(sketch, Edge { source, label, target }, at);
                 }
             }
             [low, below, high] if below.is(source, "<") && low.is_name() && high.is_name() => {
@@ -200,10 +199,7 @@ impl Draft<'_> {
                     self.add_pair(sketch, Pair { low, high }, at);
                 }
             }
-            _ => {
-                no_form(self, text, &line.words, EXPECTED_VERTEX);
-                sketch.is_broken = true;
-            }
+            _ => no_form(self, text, &line.words, EXPECTED_VERTEX),
         }
     }
 
@@ -257,13 +253,13 @@ impl Draft<'_> {
     }
 
     fn finish_pattern(&mut self, document: &Document, sketch: Sketch) -> Pattern {
-        let Sketch { block, mut pattern, edges, pairs, is_broken } = sketch;
+        let Sketch { block, mut pattern, edges, pairs, errors } = sketch;
         let counts = [
             ("vertices", pattern.query.vertices.len(), *Query::LIMITS.vertices.start()),
             ("edges", edges.len(), *Query::LIMITS.edges.start()),
         ];
         for (what, count, least) in counts {
-            if count < least && !is_broken {
+            if count < least && self.faults.errors() == errors {
                 self.error(block.head, format!("too few {what}: {count}, at least {least}"));
                 break;
             }
@@ -303,6 +299,11 @@ impl Draft<'_> {
             }
         }
     }
+}
+
+/// The words after the first make a connection or a pair of it, so that it is a vertex.
+fn is_about(source: &str, rest: &[Word]) -> bool {
+    rest.first().map_or(false, |w| w.is_arrow() || w.form == Form::Colon || w.is(source, "<"))
 }
 
 const EXPECTED_VERTEX: &str = "expected a vertex 'NAME: KIND' or 'vertex NAME', several 'vertices COUNT', each with 'label L' \

@@ -209,14 +209,15 @@ pub fn quote(name: &str) -> Cow<'_, str> {
     Cow::Borrowed(name)
 }
 
-/// Words that have a meaning where a name could stand.
-const RESERVED: [&str; 14] = [
-    "vertex", "vertices", "label", "day", "inspected", "note", "any", "expect", "scan", "extend", "join", "<", "+", "=",
-];
+/// Words that have a meaning where a name begins a line.
+const NO_NAMES: [&str; 4] = ["vertex", "vertices", "expect", "<"];
 
-/// The word has a meaning of its own in the text form, where it is not in quotes.
+/// Words that have a meaning where the name of a kind stands.
+const NO_KINDS: [&str; 6] = ["label", "day", "inspected", "note", "any", "="];
+
+/// The word begins a line of another meaning, where it is not in quotes.
 pub fn is_reserved(word: &str) -> bool {
-    RESERVED.contains(&word)
+    NO_NAMES[..2].contains(&word) || word == "<"
 }
 
 fn needs_quotes(name: &str) -> bool {
@@ -225,7 +226,8 @@ fn needs_quotes(name: &str) -> bool {
         || name.ends_with(':')
         || name.contains("->")
         || name.contains(|c: char| c == '#' || c.is_whitespace())
-        || is_reserved(name)
+        || NO_NAMES.contains(&name)
+        || NO_KINDS.contains(&name)
 }
 
 /// Why a text is no name, if it is none.

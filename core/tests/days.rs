@@ -1,7 +1,9 @@
 //! The calendar, the text form of days, and what is said about days that are none.
 
-use pack::day::{Day, Days};
-use pack::text::parse;
+mod common;
+
+use rizhavaan_core::day::{Day, Days};
+use common::parse;
 
 /// What a day is refused with.
 fn refused(word: &str) -> String {
@@ -194,9 +196,8 @@ fn days_of_a_graph() {
 
 #[test]
 fn faulty_days_of_a_graph() {
-    let expected = "expected 'vertex NAME' or 'vertices COUNT', with 'label L' and then 'day D' \
-                    after it, or one of them, or none; or an edge 'A -L-> B' with blanks around \
-                    the arrow";
+    let expected = "expected an item 'NAME: KIND' or 'vertex NAME', several 'vertices COUNT', each with 'label L' \
+                    and 'day D' after it or without; or a connection 'A -KIND-> B' with blanks around the arrow";
     for (words, message) in [
         (
             "day 2026-02-29",
@@ -225,7 +226,7 @@ fn faulty_days_of_a_graph() {
         ("day 5 day 6", expected),
         ("day 5 6", expected),
         ("Day 5", expected),
-        ("2026-11-15", expected),
+        ("2026-11-15", "a date by itself is no kind"),
     ] {
         for start in ["vertex b", "vertices 2"] {
             let text = format!("[graph]\nvertex a\n{start} {words}\na -1-> a\n");
@@ -240,7 +241,7 @@ fn days_of_a_query() {
                 vertices 2 inspected ..2026-06-30\nvertex inspected\n\
                 a -1-> 1\n1 -1-> 2\n2 -1-> inspected\n";
     let query = parse(text.as_bytes()).unwrap().hang.query.unwrap();
-    let days = |v: &pack::query::Vertex| (v.label, v.days.first.0, v.days.last.0);
+    let days = |v: &rizhavaan_core::packed::query::Vertex| (v.label, v.days.first.0, v.days.last.0);
     let vertices: Vec<(u32, u32, u32)> = query.vertices.iter().map(days).collect();
     let expected = [
         (3, 9_132, 9_677),
@@ -253,9 +254,9 @@ fn days_of_a_query() {
 
 #[test]
 fn faulty_days_of_a_query() {
-    let expected = "expected 'vertex NAME' or 'vertices COUNT', with 'label L' and then \
-                    'inspected FIRST..LAST' after it, or one of them, or none; or an edge \
-                    'A -L-> B' with blanks around the arrow; or a pair 'A < B'";
+    let expected = "expected a vertex 'NAME: KIND' or 'vertex NAME', several 'vertices COUNT', each with 'label L' \
+                    and 'inspected FIRST..LAST' after it or without; a connection 'A -KIND-> B' with blanks around \
+                    the arrow; a pair 'A < B'; or 'expect 0'";
     for (words, message) in [
         (
             "inspected 2026-06-30..2025-01-01",

@@ -1,11 +1,13 @@
 //! Changes to a graph: their text form, their bits, and what is said of those that break the rules
 //! or do not apply.
 
-use pack::change::{broken_rule, Change, Changes};
-use pack::edge::Edge;
-use pack::graph::Graph;
-use pack::hang::Hang;
-use pack::text::{parse, Parsed};
+mod common;
+
+use rizhavaan_core::packed::change::{broken_rule, Change, Changes};
+use rizhavaan_core::packed::edge::Edge;
+use rizhavaan_core::packed::graph::Graph;
+use rizhavaan_core::packing::Packed;
+use common::{parse, Parsed};
 
 /// A truss, a motor and vertex 2, with two edges and these lines of changes: the first is line 8.
 fn rig(lines: &str) -> String {
@@ -54,9 +56,9 @@ fn changes_are_sorted_and_come_back() {
     let hang = parsed(lines).hang;
     let unpacked = "[graph]\nvertices 3 label 0  # 0 to 2\n0 -5-> 1\n1 -255-> 2\n\
                     [changes]\n+ 0 -1-> 2\n- 0 -5-> 1\n+ 0 -5-> 2\n- 1 -255-> 2\n+ 2 -1-> 2\n";
-    assert_eq!(hang.to_string(), unpacked);
+    assert_eq!(hang.clone().to_text(None).unwrap(), unpacked);
     assert_eq!(parse(unpacked.as_bytes()).unwrap().hang, hang);
-    assert_eq!(Hang::from_files(hang.to_files()), Ok(hang));
+    assert_eq!(Packed::from_files(hang.to_files()), Ok(hang));
 }
 
 /// A count of 20 bits; for each a bit and an edge.
@@ -91,8 +93,8 @@ fn changes_among_other_sections() {
 #[test]
 fn faulty_changes() {
     for (line, message) in [
-        ("+ truss -1-> 3", "no vertex '3' has been declared"),
-        ("- tuss -1-> 0", "no vertex 'tuss' has been declared"),
+        ("+ truss -1-> 3", "no item '3' has been declared"),
+        ("- tuss -1-> 0", "no item 'tuss' has been declared"),
         ("+ 0 -0-> 1", "edge label 0 is not within 1 to 255"),
         ("- 0 -256-> 1", "edge label 256 is not within 1 to 255"),
         ("+ 0 --> 1", "edge label '' is no number"),
@@ -130,7 +132,7 @@ fn faulty_changes() {
     // A sign belongs to changes alone.
     let message = refused("[graph]\nvertices 2\n+ 0 -1-> 1\n");
     assert!(
-        message.starts_with("3: expected 'vertex NAME'"),
+        message.starts_with("3: expected an item 'NAME: KIND'"),
         "{message}"
     );
 }
@@ -147,7 +149,7 @@ fn changes_that_do_not_apply() {
     assert_eq!(warning("- 0 -5-> 1\n- 1 -255-> 2\n+ 1 -5-> 0\n"), None);
     assert_eq!(
         warning("+ 1 -5-> 0\n+ truss -5-> motor\n- 2 -1-> 2\n"),
-        said(9, "the graph has the edge 0 -5-> 1 already")
+        said(9, "the graph has the edge truss -5-> motor already")
     );
     assert_eq!(
         warning("- 2 -1-> 2\n+ truss -5-> motor\n"),
@@ -191,7 +193,7 @@ fn more_edges_than_a_graph_has() {
     let broken = |changes: &[(bool, Edge)]| {
         let change = |&(adds, edge): &(bool, Edge)| Change { adds, edge };
         let changes: Vec<Change> = changes.iter().map(change).collect();
-        broken_rule(&graph, &changes).map(|broken| (broken.change, broken.refusal))
+        broken_rule(&graph, &changes, &|e| e.to_string()).map(|broken| (broken.change, broken.refusal))
     };
     assert_eq!(broken(&[(true, beyond)]), Some((None, 29)));
     assert_eq!(broken(&[(true, beyond), (false, last)]), None);
@@ -235,7 +237,7 @@ fn rules_by_trial() {
                 };
                 let changes: Vec<Change> = chosen(set).map(change).collect();
                 let unfit = chosen(set).position(|i| adds(i) == (present >> i & 1 == 1));
-                let broken = broken_rule(&graph, &changes);
+                let broken = broken_rule(&graph, &changes, &|e| e.to_string());
                 assert_eq!(broken.as_ref().and_then(|b| b.change), unfit);
                 assert!(broken.iter().all(|b| b.refusal == 28));
             }

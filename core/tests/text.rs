@@ -1,9 +1,11 @@
 //! What the text form means, and what is said about text that breaks its rules.
 
-use pack::day::Day;
-use pack::edge::Edge;
-use pack::plan::Operator;
-use pack::text::parse;
+mod common;
+
+use rizhavaan_core::day::Day;
+use rizhavaan_core::packed::edge::Edge;
+use rizhavaan_core::packed::plan::Operator;
+use common::parse;
 
 const QUERY: &str = "[query]\nvertices 4\n0 -1-> 1\n1 -1-> 2\n2 -1-> 3\n";
 
@@ -79,7 +81,7 @@ fn edges_of_any_label() {
     let unpacked = "[query]\nvertices 3 label 0  # 0 to 2\n\
                     0 -any-> 1\n0 -1-> 1\n1 -any-> 2\n1 -255-> 2\n\
                     [plan]\nscan 1 -any-> 2\nscan 0 -any-> 1\nscan 0 -1-> 1\njoin\njoin\n";
-    assert_eq!(hang.to_string(), unpacked);
+    assert_eq!(hang.clone().to_text(None).unwrap(), unpacked);
     assert_eq!(parse(unpacked.as_bytes()).unwrap().hang, hang);
 }
 
@@ -88,7 +90,10 @@ fn faulty_labels_of_query_edges() {
     for (line, message) in [
         ("0 -0-> 1", "for an edge of any label write 'any', not 0"),
         ("0 -256-> 1", "edge label 256 is not within 1 to 255"),
-        ("0 -Any-> 1", "edge label 'Any' is no number"),
+        (
+            "0 -Any-> 1",
+            "no kind of connection 'Any' is known: there is no hang, and no [kinds]",
+        ),
         ("0 --> 1", "edge label '' is no number"),
         ("0 any-> 1", "'any->' is no arrow -LABEL->"),
         ("0 -any-> 0", "a query edge joins two different vertices"),
@@ -106,7 +111,7 @@ fn faulty_labels_of_query_edges() {
 
 #[test]
 fn faulty_sections() {
-    let expected = "expected [graph], [query], [plan] or [changes]";
+    let expected = "expected [kinds], [graph], [query], [plan] or [changes]";
     for (text, message) in [
         ("", format!("1: no section; {expected}")),
         ("# nothing\n\n", format!("1: no section; {expected}")),
@@ -143,48 +148,49 @@ fn text_that_is_not_utf8() {
 
 #[test]
 fn faulty_graph_lines() {
-    let name = "is no name: a letter, then letters, digits, '_' or '-'";
     for (line, message) in [
-        ("vertices 65534", "more than 65535 vertices".into()),
+        ("vertices 65534", "more than 65535 vertices"),
         (
             "vertices 99999999999",
-            "count 99999999999 is not within 0 to 4294967295".into(),
+            "count 99999999999 is not within 0 to 4294967295",
         ),
-        ("vertices -1", "count '-1' is no number".into()),
+        ("vertices -1", "count '-1' is no number"),
         (
             "vertices 1 label 65536",
-            "vertex label 65536 is not within 0 to 65535".into(),
+            "vertex label 65536 is not within 0 to 65535",
         ),
         (
             "vertices 1 label +1",
-            "vertex label '+1' is no number".into(),
+            "vertex label '+1' is no number",
         ),
-        ("vertex 5", format!("'5' {name}")),
-        ("vertex a>b", format!("'a>b' {name}")),
-        ("vertex pin", "'pin' is the name of vertex 1 already".into()),
+        (
+            "vertex a->b",
+            "'a->b' is a word of the text form and no name: write it in quotes, \"a->b\"",
+        ),
+        ("vertex pin", "'pin' is the name of vertex 1 already"),
         (
             "vertex vertices",
-            "'vertices' is a word of the text form and no name".into(),
+            "'vertices' is a word of the text form and no name: write it in quotes, \"vertices\"",
         ),
-        ("0 -1-> 2", "no vertex '2' has been declared".into()),
+        ("0 -1-> 2", "no item '2' has been declared"),
         (
             "99999999999 -1-> 0",
-            "no vertex '99999999999' has been declared".into(),
+            "no item '99999999999' has been declared",
         ),
-        ("0 -1-> truss", "no vertex 'truss' has been declared".into()),
-        ("0 -0-> pin", "edge label 0 is not within 1 to 255".into()),
+        ("0 -1-> truss", "no item 'truss' has been declared"),
+        ("0 -0-> pin", "edge label 0 is not within 1 to 255"),
         (
             "0 -any-> pin",
-            "'any' is for query edges; a graph edge has a label".into(),
+            "'any' is for query edges; a graph edge has a label",
         ),
         (
             "0 -256-> pin",
-            "edge label 256 is not within 1 to 255".into(),
+            "edge label 256 is not within 1 to 255",
         ),
-        ("0 --> pin", "edge label '' is no number".into()),
-        ("0 -> pin", "'->' is no arrow -LABEL->".into()),
-        ("0 -1- pin", "'-1-' is no arrow -LABEL->".into()),
-        ("pin -1-> 0", "the edge stands at line 4 already".into()),
+        ("0 --> pin", "edge label '' is no number"),
+        ("0 -> pin", "'->' is no arrow -LABEL->"),
+        ("0 -1- pin", "'-1-' is no arrow -LABEL->"),
+        ("pin -1-> 0", "the edge stands at line 4 already"),
     ] {
         let text = format!("[graph]\nvertices 1\nvertex pin\npin -1-> 0\n{line}\n");
         assert_eq!(refused(&text), format!("5: {message}"));
@@ -197,14 +203,12 @@ fn lines_of_no_known_form() {
         "0-1->1",
         "vertex",
         "vertices",
-        "vertex a 3",
         "vertex a label",
         "scan 0",
-        "[a] b",
     ] {
         let message = refused(&format!("[graph]\n{line}\n"));
         assert!(
-            message.starts_with("2: expected 'vertex NAME'"),
+            message.starts_with("2: expected an item 'NAME: KIND'"),
             "{message}"
         );
     }

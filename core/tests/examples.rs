@@ -1,14 +1,16 @@
 //! Every example's text packs to its files, which unpack to a text that packs to them again; and
 //! whatever becomes of texts and files, nothing panics.
 
+mod common;
+
 use std::fs;
 use std::path::{Path, PathBuf};
 
-use pack::hang::{Files, Hang};
-use pack::text::parse;
+use rizhavaan_core::packing::{Files, Packed};
+use common::parse;
 
 fn examples() -> Vec<PathBuf> {
-    let folder = Path::new(env!("CARGO_MANIFEST_DIR")).join("../../examples");
+    let folder = Path::new(env!("CARGO_MANIFEST_DIR")).join("../examples");
     let entries = fs::read_dir(folder).unwrap().map(|e| e.unwrap().path());
     entries.filter(|path| path.is_dir()).collect()
 }
@@ -19,7 +21,7 @@ fn text(example: &Path) -> Vec<u8> {
 
 /// The plan may be left to the engine, and few have changes.
 fn files(example: &Path) -> Files {
-    let files = Hang::FILES.map(|name| fs::read(example.join(name)).ok());
+    let files = Packed::FILES.map(|name| fs::read(example.join(name)).ok());
     assert!(files[0].is_some() && files[1].is_some(), "{example:?}");
     files
 }
@@ -31,9 +33,9 @@ fn examples_round_trip() {
     for example in examples {
         let packed = parse(&text(&example)).unwrap().hang;
         assert_eq!(packed.to_files(), files(&example), "{example:?}");
-        let unpacked = Hang::from_files(files(&example)).unwrap();
+        let unpacked = Packed::from_files(files(&example)).unwrap();
         assert_eq!(unpacked, packed);
-        let again = parse(unpacked.to_string().as_bytes()).unwrap();
+        let again = parse(unpacked.clone().to_text(None).unwrap().as_bytes()).unwrap();
         assert_eq!(again.hang, packed);
     }
 }
@@ -145,7 +147,7 @@ fn damaged_texts_do_not_panic() {
             numbers.damage(&mut text);
             if let Ok(parsed) = parse(&text) {
                 let files = parsed.hang.to_files();
-                assert_eq!(Hang::from_files(files), Ok(parsed.hang));
+                assert_eq!(Packed::from_files(files), Ok(parsed.hang));
             }
         }
     }
@@ -161,9 +163,9 @@ fn damaged_files_are_refused_or_come_back() {
             if let Some(bytes) = &mut files[numbers.below(4)] {
                 numbers.damage(bytes);
             }
-            if let Ok(hang) = Hang::from_files(files.clone()) {
+            if let Ok(hang) = Packed::from_files(files.clone()) {
                 assert_eq!(hang.to_files(), files);
-                let parsed = parse(hang.to_string().as_bytes()).unwrap();
+                let parsed = parse(hang.clone().to_text(None).unwrap().as_bytes()).unwrap();
                 assert_eq!(parsed.hang, hang);
             }
         }

@@ -1,11 +1,11 @@
 //! Malformed packed files, against the numbers that the engine refuses them with.
 
-use pack::bits::BitWriter;
-use pack::change::Changes;
-use pack::edge::FileFault;
-use pack::graph::Graph;
-use pack::plan::Plan;
-use pack::query::Query;
+use rizhavaan_core::packed::bits::BitWriter;
+use rizhavaan_core::packed::change::Changes;
+use rizhavaan_core::packed::edge::FileFault;
+use rizhavaan_core::packed::graph::Graph;
+use rizhavaan_core::packed::plan::Plan;
+use rizhavaan_core::packed::query::Query;
 
 /// The worked files G, Q and P in hexadecimal.
 const G: &str = "0004 00005 00000000 00000000 00000000 00000000 \
