@@ -64,6 +64,9 @@ pub fn kind_fault(name: &str) -> Option<String> {
     if is_number(name) {
         return Some(format!("'{name}' is a number and no name of a kind"));
     }
+    if Day::read(name).is_ok() {
+        return Some(format!("'{name}' is a date and no name of a kind"));
+    }
     name_fault(name).map(str::to_string)
 }
 
