@@ -40,11 +40,15 @@ pub fn reason(error: &std::io::Error) -> String {
     }
 }
 
-/// The files of a folder: a text `hang.txt`; or tables, and texts beside them; or packed files.
+/// The files of a folder: `hang.txt`, and `rules.txt` beside it; or packed files; or tables, and texts beside them.
 fn folder(path: &Path, sources: &mut Vec<Source>) -> Result<()> {
     let hang = path.join("hang.txt");
     if hang.is_file() {
         sources.push(Source::new(hang.display().to_string(), bytes(&hang)?));
+        let rules = path.join("rules.txt");
+        if rules.is_file() {
+            sources.push(Source::new(rules.display().to_string(), bytes(&rules)?));
+        }
         return Ok(());
     }
     if path.join("g.bin").is_file() {

@@ -2,6 +2,7 @@
 
 use std::io::Write;
 
+use rizhavaan_core::kinds::Kinds;
 use rizhavaan_core::json::{pair_words, FoundJson};
 use rizhavaan_core::summary::Summary;
 use rizhavaan_core::{chosen, Choice, Document, Found, Loaded, Options};
@@ -106,10 +107,10 @@ fn csv(output: &mut Output, loaded: &Loaded, found: &Found) -> Result<()> {
     Ok(())
 }
 
-/// Of tables whose kinds are not declared, each kind and its count, so that a slip stands out.
+/// Where kinds have names that are not declared, each kind and its count, so that a slip stands out.
 pub fn show_summary(document: &Document) {
-    let Some(hang) = &document.hang else { return };
-    if !hang.from_tables || (document.item_kinds.is_declared() && document.connection_kinds.is_declared()) {
+    let is_loose = |kinds: &Kinds| !kinds.is_empty() && !kinds.is_declared();
+    if !is_loose(&document.item_kinds) && !is_loose(&document.connection_kinds) {
         return;
     }
     let summary = Summary::of(document);

@@ -3,16 +3,9 @@
 use std::borrow::Cow;
 use std::io::{self, IsTerminal, Write};
 
+pub use rizhavaan_core::find::places;
 use rizhavaan_core::{Found, Loaded};
 use unicode_width::UnicodeWidthStr;
-
-/// How many places, in words.
-pub fn places(count: usize) -> String {
-    match count {
-        1 => "1 place".into(),
-        n => format!("{n} places"),
-    }
-}
 
 /// The columns of the terminal that standard output is, if it is one.
 pub fn terminal() -> Option<usize> {

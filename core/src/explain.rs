@@ -3,7 +3,7 @@
 use std::fmt::Write;
 
 use crate::document::{Document, Pattern};
-use crate::find::Found;
+use crate::find::{places, Found};
 use crate::packed::edge::Edge;
 use crate::packed::plan::Operator;
 
@@ -12,7 +12,7 @@ pub fn explain(document: &Document, found: &Found) -> String {
     let mut out = String::new();
     let pattern = found.pattern;
     let from = if found.is_given { "the plan of the text" } else { "a plan that the engine drew" };
-    let _ = writeln!(out, "{}: {} places by {from}, cost {}\n", pattern.title(), found.places(), found.cost);
+    let _ = writeln!(out, "{}: {} by {from}, cost {}\n", pattern.title(), places(found.places()), found.cost);
     words(&mut out, document, found);
     out.push('\n');
     drawing(&mut out, document, found);

@@ -222,6 +222,14 @@ pub fn once(pattern: &Pattern) -> Result<(Query, Vec<Pair>), Failure> {
     Ok((query, added))
 }
 
+/// How many places, in words.
+pub fn places(count: usize) -> String {
+    match count {
+        1 => "1 place".into(),
+        n => format!("{n} places"),
+    }
+}
+
 /// The patterns of these names, or all of them where there are no names.
 pub fn chosen<'d>(document: &'d Document, names: &[String]) -> Result<Vec<&'d Pattern>, Failure> {
     if document.patterns.is_empty() {

@@ -4,7 +4,7 @@ use std::collections::HashSet;
 use std::fmt::Write;
 
 use crate::document::{Document, Hang};
-use crate::find::Found;
+use crate::find::{places, Found};
 use crate::packed::edge::{Edge, ANY_LABEL};
 
 /// Colours of kinds, readable with black letters.
@@ -106,7 +106,7 @@ fn caption(found: Option<&Found>, count: usize, drawn: usize) -> String {
     match found {
         Some(found) => {
             let sentence = found.pattern.sentence.as_deref().unwrap_or(found.pattern.title());
-            format!("{sentence}\n{} places marked in red; {part}", found.places())
+            format!("{sentence}\n{} marked in red; {part}", places(found.places()))
         }
         None => part,
     }

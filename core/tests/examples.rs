@@ -12,7 +12,7 @@ use common::parse;
 fn examples() -> Vec<PathBuf> {
     let folder = Path::new(env!("CARGO_MANIFEST_DIR")).join("../examples");
     let entries = fs::read_dir(folder).unwrap().map(|e| e.unwrap().path());
-    entries.filter(|path| path.is_dir()).collect()
+    entries.filter(|path| path.join("g.bin").is_file()).collect()
 }
 
 fn text(example: &Path) -> Vec<u8> {
