@@ -44,7 +44,21 @@ fn damage(r: &mut Numbers, bytes: &mut Vec<u8>) {
     }
     let at = r.below(bytes.len());
     let end = (at + 1 + r.below(20)).min(bytes.len());
-    match r.below(9) {
+    match r.below(12) {
+        9 | 10 => {
+            let mut lines: Vec<&[u8]> = bytes.split_inclusive(|&b| b == b'\n').collect();
+            let line = lines.remove(r.below(lines.len()));
+            if r.below(2) == 0 {
+                lines.insert(r.below(lines.len() + 1), line);
+            }
+            *bytes = lines.concat();
+        }
+        11 => {
+            let digits: Vec<usize> = (0..bytes.len()).filter(|&i| bytes[i].is_ascii_digit()).collect();
+            if !digits.is_empty() {
+                bytes[digits[r.below(digits.len())]] = b'0' + r.below(10) as u8;
+            }
+        }
         0 => bytes.truncate(at),
         1 => drop(bytes.remove(at)),
         2 => bytes.insert(at, bytes[at]),
@@ -77,7 +91,7 @@ fn sources(r: &mut Numbers, originals: &[Vec<Source>]) -> Vec<Source> {
         return vec![Source::new(names[r.below(2)], bytes(r, 400))];
     }
     let mut sources = originals[r.below(originals.len())].clone();
-    for _ in 0..1 + r.below(4) {
+    for _ in 0..1 + r.below(3) {
         let i = r.below(sources.len());
         damage(r, &mut sources[i].bytes);
     }
