@@ -122,14 +122,19 @@ impl fmt::Display for Days {
 
 /// Year, month and day of a word of the form 2026-11-15.
 fn parts(word: &str) -> Option<[u32; 3]> {
-    let mut parts = word.split('-');
-    let mut part = |digits: usize| {
-        let part = parts.next()?;
-        let fits = part.len() == digits && is_number(part);
-        fits.then(|| part.parse().ok()).flatten()
+    let bytes = word.as_bytes();
+    if bytes.len() != 10 || bytes[4] != b'-' || bytes[7] != b'-' {
+        return None;
+    }
+    let part = |digits: &[u8]| {
+        digits.iter().try_fold(0, |number, byte| byte.is_ascii_digit().then(|| 10 * number + u32::from(byte - b'0')))
     };
-    let date = [part(4)?, part(2)?, part(2)?];
-    parts.next().is_none().then_some(date)
+    Some([part(&bytes[..4])?, part(&bytes[5..7])?, part(&bytes[8..])?])
+}
+
+/// The word is a date, with digits where a date has them.
+pub fn is_date(word: &str) -> bool {
+    parts(word).is_some()
 }
 
 /// The days since 1 January 2000 of a date, or nothing if it lies before.
@@ -137,9 +142,11 @@ fn number_of(year: u32, month: u32, day: u32) -> Option<Day> {
     if year < 2000 {
         return None;
     }
-    let years: u32 = (2000..year).map(year_length).sum();
+    // The leap years before it, from 2000 on: every fourth, without centuries that 400 does not divide.
+    let past = year - 2000;
+    let leaps = (past + 3) / 4 - (past + 99) / 100 + (past + 399) / 400;
     let months: u32 = (1..month).map(|m| month_length(year, m)).sum();
-    Some(Day(years + months + day - 1))
+    Some(Day(365 * past + leaps + months + day - 1))
 }
 
 fn is_leap(year: u32) -> bool {

@@ -14,11 +14,13 @@ pub struct Names {
     named: usize,
 }
 
-/// A name in the table: its hash, and its number plus one, or 0 for none.
+/// A name in the table: its hash, its number plus one, or 0 for none, and where it begins and ends.
 #[derive(Clone, Copy, Default)]
 struct Entry {
     hash: u32,
     next: u32,
+    start: u32,
+    end: u32,
 }
 
 impl Names {
@@ -63,10 +65,11 @@ impl Names {
             return Err(number);
         }
         let number = self.spans.len() as u32;
-        self.table[slot] = Entry { hash, next: number + 1 };
         let start = self.text.len() as u32;
         self.text.push_str(name);
-        self.spans.push((start, self.text.len() as u32));
+        let end = self.text.len() as u32;
+        self.table[slot] = Entry { hash, next: number + 1, start, end };
+        self.spans.push((start, end));
         self.named += 1;
         Ok(number)
     }
@@ -90,8 +93,8 @@ impl Names {
         let mut slot = hash as usize & mask;
         loop {
             let entry = self.table[slot];
-            let is_other = |entry: Entry| entry.hash != hash || self.get(entry.next - 1) != Some(name);
-            if entry.next == 0 || !is_other(entry) {
+            let is_same = |e: Entry| e.hash == hash && self.text.as_bytes()[e.start as usize..e.end as usize] == *name.as_bytes();
+            if entry.next == 0 || is_same(entry) {
                 return slot;
             }
             slot = (slot + 1) & mask;

@@ -1,7 +1,5 @@
 //! How many items and connections of each kind there are.
 
-use std::collections::BTreeMap;
-
 use crate::document::Document;
 
 /// Counts by kind, most first.
@@ -35,11 +33,16 @@ impl Summary {
 }
 
 fn counts(labels: impl Iterator<Item = u32>, name: impl Fn(u32) -> String) -> Vec<(String, usize)> {
-    let mut counts = BTreeMap::new();
+    let mut by_label: Vec<usize> = Vec::new();
     for label in labels {
-        *counts.entry(label).or_insert(0) += 1;
+        let label = label as usize;
+        if label >= by_label.len() {
+            by_label.resize(label + 1, 0);
+        }
+        by_label[label] += 1;
     }
-    let mut counts: Vec<(String, usize)> = counts.into_iter().map(|(label, count)| (name(label), count)).collect();
+    let some = (0..).zip(by_label).filter(|&(_, count)| count > 0);
+    let mut counts: Vec<(String, usize)> = some.map(|(label, count)| (name(label), count)).collect();
     counts.sort_by(|a, b| b.1.cmp(&a.1));
     counts
 }

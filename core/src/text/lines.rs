@@ -1,6 +1,6 @@
 //! The lines of `[kinds]` and `[graph]`.
 
-use crate::day::Day;
+use crate::day::{is_date, Day};
 use crate::kinds::Written;
 use crate::packed::edge::{ANY, EDGE_LABELS, VERTEX_LABELS};
 use crate::packed::graph::Graph;
@@ -64,7 +64,7 @@ pub fn kind_fault(name: &str) -> Option<String> {
     if is_number(name) {
         return Some(format!("'{name}' is a number and no name of a kind"));
     }
-    if Day::read(name).is_ok() {
+    if is_date(name) {
         return Some(format!("'{name}' is a date and no name of a kind"));
     }
     name_fault(name).map(str::to_string)
@@ -217,7 +217,7 @@ pub fn split_kind<'w>(draft: &mut Draft, text: u32, rest: &'w [Word]) -> Option<
             draft.faults.push(fault.help(format!("for the kind of this number write 'label {}'", word.raw(source))));
             None
         }
-        [word, ..] if word.form == Form::Bare && Day::read(word.raw(source)).is_ok() => {
+        [word, ..] if word.form == Form::Bare && is_date(word.raw(source)) => {
             let fault = Fault::error(place(text, word), "a date by itself is no kind");
             draft.faults.push(fault.help(format!("for a day write 'day {}'", word.raw(source))));
             None

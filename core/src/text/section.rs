@@ -52,7 +52,8 @@ pub fn read(draft: &mut Draft) {
 /// Reads the `[kinds]` of a text, which hold for all texts, those before it too.
 fn read_kinds(draft: &mut Draft, text: u32) {
     let source = draft.source(text);
-    if draft.texts[text as usize].is_table() || !source.contains("kinds") {
+    let is_head = |at: usize| source[at + 1..].trim_start().starts_with("kinds");
+    if draft.texts[text as usize].is_table() || !memchr::memchr_iter(b'[', source.as_bytes()).any(is_head) {
         return;
     }
     let mut inside = false;
@@ -75,7 +76,7 @@ fn line_ends(source: &str, begin: usize) -> impl Iterator<Item = (usize, usize)>
             return None;
         }
         let start = at;
-        let stop = source[at..].find('\n').map_or(source.len(), |i| at + i);
+        let stop = memchr::memchr(b'\n', &source.as_bytes()[at..]).map_or(source.len(), |i| at + i);
         at = stop + 1;
         let end = if source[start..stop].ends_with('\r') { stop - 1 } else { stop };
         Some((start, end))

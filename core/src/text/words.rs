@@ -69,6 +69,10 @@ pub fn split(source: &str, start: usize, end: usize, words: &mut Vec<Word>) -> R
     let mut at = start;
     while at < end {
         let byte = bytes[at];
+        if byte == b' ' {
+            at += 1;
+            continue;
+        }
         if byte == b'#' {
             return Ok(Some(at));
         }
@@ -91,6 +95,19 @@ fn is_blank(byte: u8) -> bool {
     matches!(byte, b' ' | 9..=13)
 }
 
+/// Bytes at which a bare word may end: blanks, the sign of a comment, and those of characters outside ASCII, which may be blanks.
+static IS_STOP: [bool; 256] = stops();
+
+const fn stops() -> [bool; 256] {
+    let mut stops = [false; 256];
+    let mut byte = 0;
+    while byte < 256 {
+        stops[byte] = byte >= 0x80 || byte == b'#' as usize || byte == b' ' as usize || (byte >= 9 && byte <= 13);
+        byte += 1;
+    }
+    stops
+}
+
 /// How many bytes the blank at a place has, if there is one.
 #[inline]
 fn blank_at(source: &str, at: usize, end: usize) -> Option<usize> {
@@ -107,20 +124,14 @@ fn word(form: Form, start: usize, end: usize) -> Word {
 }
 
 fn bare(source: &str, start: usize, end: usize, words: &mut Vec<Word>) -> usize {
-    let bytes = source.as_bytes();
+    let bytes = &source.as_bytes()[..end];
     let mut at = start;
-    while at < end {
-        let byte = bytes[at];
-        if byte < 0x80 {
-            if byte == b'#' || is_blank(byte) {
-                break;
-            }
-            at += 1;
-        } else if blank_at(source, at, end).is_some() {
+    loop {
+        at += bytes[at..].iter().position(|&byte| IS_STOP[usize::from(byte)]).unwrap_or(end - at);
+        if at == end || bytes[at] < 0x80 || blank_at(source, at, end).is_some() {
             break;
-        } else {
-            at += source[at..end].chars().next().map_or(1, char::len_utf8);
         }
+        at += source[at..end].chars().next().map_or(1, char::len_utf8);
     }
     let text = &source[start..at];
     if text.len() >= 3 && text.starts_with('-') && text.ends_with("->") {
@@ -185,6 +196,7 @@ fn after(source: &str, start: usize, at: usize, end: usize) -> Result<usize, Bro
     Err((start as u32, (at + next) as u32, "a blank stands after what is in quotes; a quotation mark within is written twice"))
 }
 
+#[inline]
 pub fn is_number(word: &str) -> bool {
     !word.is_empty() && word.bytes().all(|b| b.is_ascii_digit())
 }
