@@ -81,7 +81,7 @@ fn find_all(loaded: &Loaded, with: &[(&Pattern, Expect)], options: &Options) -> 
 }
 
 fn write(output: &mut Output, held: &[Held], without: usize) -> Result<()> {
-    let is_terminal = std::io::stdout().is_terminal();
+    let is_terminal = std::io::stdout().is_terminal() && std::env::var_os("NO_COLOR").is_none();
     let width = held.iter().map(|h| h.pattern.title().chars().count()).max().unwrap_or(0);
     for h in held {
         let (word, colour) = if h.holds() { ("ok  ", "32") } else { ("FAIL", "31") };

@@ -84,7 +84,8 @@ fn write(output: &mut Output, arguments: &Find, loaded: &Loaded, all: &[Found]) 
                 if i > 0 {
                     writeln!(output)?;
                 }
-                list::found(output, loaded, found, found.pattern.name.is_some())?;
+                let limit = if arguments.output.is_none() { list::terminal() } else { None };
+                list::found(output, loaded, found, limit)?;
             }
         }
     }

@@ -67,9 +67,9 @@ fn stacked<'a>(out: &mut dyn Write, head: &[String], rows: impl Iterator<Item = 
     Ok(())
 }
 
-/// Writes the places of a pattern, with their number first and last.
-pub fn found(out: &mut dyn Write, loaded: &Loaded, found: &Found, with_title: bool) -> io::Result<()> {
-    if with_title {
+/// Writes the places of a pattern, with their number first and last, in so many columns where they are bound.
+pub fn found(out: &mut dyn Write, loaded: &Loaded, found: &Found, limit: Option<usize>) -> io::Result<()> {
+    if found.pattern.name.is_some() {
         match &found.pattern.sentence {
             Some(sentence) => writeln!(out, "{}: {sentence}", found.pattern.title())?,
             None => writeln!(out, "{}", found.pattern.title())?,
@@ -81,7 +81,7 @@ pub fn found(out: &mut dyn Write, loaded: &Loaded, found: &Found, with_title: bo
         writeln!(out, "{}\n", rizhavaan_core::why::why(loaded, found))?;
     } else {
         let rows = found.rows().map(|row| row.iter().map(|&item| loaded.hang.item(item)).collect());
-        table(out, &found.pattern.vertices(), rows, terminal())?;
+        table(out, &found.pattern.vertices(), rows, limit)?;
         writeln!(out)?;
     }
     writeln!(out, "{count}, all of them")

@@ -28,7 +28,18 @@ const ERROR: u8 = 2;
 
 fn main() -> ExitCode {
     let arguments = Arguments::parse();
-    let result = match &arguments.command {
+    // A fault of the program itself is an error like the others, and never a list.
+    let result = std::panic::catch_unwind(|| run(&arguments.command)).unwrap_or_else(|_| {
+        Err(Stop::Because("a fault of this program; what was written, if anything, is no answer".into()))
+    });
+    ExitCode::from(result.unwrap_or_else(|stop| {
+        say(&stop);
+        ERROR
+    }))
+}
+
+fn run(command: &Command) -> stop::Result<u8> {
+    match command {
         Command::Find(arguments) => find::run(arguments),
         Command::Pack(arguments) => packed::pack(arguments),
         Command::Unpack(arguments) => packed::run_unpack(arguments),
@@ -44,11 +55,7 @@ fn main() -> ExitCode {
             clap_complete::generate(*shell, &mut Arguments::command(), "rizhavaan", &mut script);
             output::write_all(None, &script).map(|()| 0)
         }
-    };
-    ExitCode::from(result.unwrap_or_else(|stop| {
-        say(&stop);
-        ERROR
-    }))
+    }
 }
 
 /// Says why there is no answer.

@@ -39,7 +39,9 @@ pub fn sql(document: &Document, hang: &Hang, pattern: &Pattern, query: &Query) -
          CREATE INDEX touch_source ON touch (source, target);\n\
          CREATE INDEX touch_target ON touch (target, source);\n\
          COMMIT;\n\
-         ANALYZE;\n",
+         ANALYZE item;\n\
+         ANALYZE connection;\n\
+         ANALYZE touch;\n",
     );
     select(&mut out, pattern, query);
     out
