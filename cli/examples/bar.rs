@@ -22,7 +22,8 @@ use rizhavaan_core::{read, Source};
 
 const ROUNDS: usize = 25;
 const KINDS: [&str; 5] = ["", "top", "bottom", "motor", "link"];
-const PATTERN: &str = "[query chain]\nbottom: bottom\nmotor: motor\nlink: link\nbottom -hangs-> motor\nmotor -link-> link\n";
+const PATTERN: &str =
+    "[query chain]\nbottom: bottom\nmotor: motor\nlink: link\nbottom -hangs-> motor\nmotor -link-> link\n";
 
 fn label(label: u8) -> String {
     match label {
@@ -117,6 +118,10 @@ fn main() {
     let bar = 4.0 * ms(engine) + 60.0;
     println!("{name}; {rows} rows");
     println!("Load, draw plan and run   {:6.1} ms", ms(engine));
-    println!("find, a text              {:6.1} ms, {:.2} of the bar of 4 times that plus 60 ms", ms(text), ms(text) / bar);
+    println!(
+        "find, a text              {:6.1} ms, {:.2} of the bar of 4 times that plus 60 ms",
+        ms(text),
+        ms(text) / bar
+    );
     println!("find, tables              {:6.1} ms, {:.2} of twice that bar", ms(tables), ms(tables) / (2.0 * bar));
 }

@@ -6,7 +6,12 @@ use clap::{Args, Parser, Subcommand, ValueEnum};
 
 /// Every place where a pattern occurs in a rig, by a proved engine.
 #[derive(Parser)]
-#[command(name = "rizhavaan", version, about, after_help = "Exit status: 0 found, or all as expected; 1 nothing found, or not as expected; 2 an error.")]
+#[command(
+    name = "rizhavaan",
+    version,
+    about,
+    after_help = "Exit status: 0 found, or all as expected; 1 nothing found, or not as expected; 2 an error."
+)]
 pub struct Arguments {
     #[command(subcommand)]
     pub command: Command,
@@ -15,19 +20,27 @@ pub struct Arguments {
 #[derive(Subcommand)]
 pub enum Command {
     /// List every place of the patterns
-    #[command(after_help = "Example:\n    rizhavaan find hang.txt\n    rizhavaan find items.csv connections.csv rules.txt --pattern two-motors --csv -o places.csv\n\nExit status: 0 found, 1 nothing found, 2 an error.")]
+    #[command(
+        after_help = "Example:\n    rizhavaan find hang.txt\n    rizhavaan find items.csv connections.csv rules.txt --pattern two-motors --csv -o places.csv\n\nExit status: 0 found, 1 nothing found, 2 an error."
+    )]
     Find(Find),
     /// Hold all patterns that have an 'expect' to it
-    #[command(after_help = "Example:\n    rizhavaan check hang.txt rules.txt\n\nExit status: 0 all as expected, 1 one is not, 2 an error.")]
+    #[command(
+        after_help = "Example:\n    rizhavaan check hang.txt rules.txt\n\nExit status: 0 all as expected, 1 one is not, 2 an error."
+    )]
     Check(Check),
     /// What is gone, new and kept between two hangs, or before and after [changes]
-    #[command(after_help = "Example:\n    rizhavaan diff monday.txt tuesday.txt --patterns rules.txt\n    rizhavaan diff hang.txt          # before and after its [changes]\n\nExit status: 0 no difference, 1 some, 2 an error.")]
+    #[command(
+        after_help = "Example:\n    rizhavaan diff monday.txt tuesday.txt --patterns rules.txt\n    rizhavaan diff hang.txt          # before and after its [changes]\n\nExit status: 0 no difference, 1 some, 2 an error."
+    )]
     Diff(Diff),
     /// The plan in words, and where the work went
     #[command(after_help = "Example:\n    rizhavaan explain hang.txt --pattern two-motors")]
     Explain(Explain),
     /// The hang as a picture, as it hangs, with the places of a pattern marked
-    #[command(after_help = "Example:\n    rizhavaan picture hang.txt -o rig.svg\n\nGraphviz draws it: apt-get install graphviz, or write the description with -o rig.dot.")]
+    #[command(
+        after_help = "Example:\n    rizhavaan picture hang.txt -o rig.svg\n\nGraphviz draws it: apt-get install graphviz, or write the description with -o rig.dot."
+    )]
     Picture(Picture),
     /// The hang and a pattern as SQL, for a second list by sqlite3 or PostgreSQL
     #[command(after_help = "Example:\n    rizhavaan sql hang.txt | sqlite3")]
@@ -45,7 +58,9 @@ pub enum Command {
     #[command(after_help = "Example:\n    rizhavaan unpack packed/ > hang.txt")]
     Unpack(Unpack),
     /// A script that completes commands in a shell
-    #[command(after_help = "Example:\n    rizhavaan completion bash > ~/.local/share/bash-completion/completions/rizhavaan")]
+    #[command(
+        after_help = "Example:\n    rizhavaan completion bash > ~/.local/share/bash-completion/completions/rizhavaan"
+    )]
     Completion { shell: clap_complete::Shell },
 }
 

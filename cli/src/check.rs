@@ -60,7 +60,11 @@ pub fn run(arguments: &Check) -> Result<u8> {
 }
 
 /// The number of places of each pattern, on all cores.
-fn find_all(loaded: &Loaded, with: &[(&Pattern, Expect)], options: &Options) -> Vec<std::result::Result<usize, Failure>> {
+fn find_all(
+    loaded: &Loaded,
+    with: &[(&Pattern, Expect)],
+    options: &Options,
+) -> Vec<std::result::Result<usize, Failure>> {
     let cores = std::thread::available_parallelism().map_or(1, |n| n.get()).min(with.len());
     let options = Options { memory: options.memory / cores, ..*options };
     let next = AtomicUsize::new(0);

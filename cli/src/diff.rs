@@ -81,11 +81,15 @@ fn of_two(arguments: &Diff, old: &PathBuf, new: &PathBuf, progress: &Progress) -
     let mut all = Vec::new();
     for pattern in patterns {
         let Some(same) = old_read.document().patterns.iter().find(|p| p.title() == pattern.title()) else {
-            tell(&format!("'{}' is a pattern of the new hang's file alone; give patterns with --patterns", pattern.title()));
+            tell(&format!(
+                "'{}' is a pattern of the new hang's file alone; give patterns with --patterns",
+                pattern.title()
+            ));
             continue;
         };
         if in_words(old_read.document(), same) != in_words(new_read.document(), pattern) {
-            let reason = format!("the pattern '{}' is not the same in both; give patterns with --patterns", pattern.title());
+            let reason =
+                format!("the pattern '{}' is not the same in both; give patterns with --patterns", pattern.title());
             return Err(Stop::Because(reason));
         }
         let old = old_read.explain(before.find(&Library, same, &options))?;

@@ -1,7 +1,7 @@
 //! The proved engine, by the wrapper of its static library.
 
-use rizhavaan_core::engine::{Answer, Engine, Record, Refusal};
 use library::Cache;
+use rizhavaan_core::engine::{Answer, Engine, Record, Refusal};
 
 /// The static library.
 pub struct Library;

@@ -46,9 +46,8 @@ pub fn show_each(texts: &[Text], faults: &[&Fault]) {
             Severity::Error => Diagnostic::error(),
             Severity::Warning => Diagnostic::warning(),
         };
-        let mut diagnostic = diagnostic
-            .with_message(&fault.reason)
-            .with_labels(vec![Label::primary(at.text as usize, start..end)]);
+        let mut diagnostic =
+            diagnostic.with_message(&fault.reason).with_labels(vec![Label::primary(at.text as usize, start..end)]);
         if let Some(help) = &fault.help {
             diagnostic = diagnostic.with_notes(vec![help.clone()]);
         }

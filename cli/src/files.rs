@@ -16,7 +16,10 @@ pub fn sources(paths: &[PathBuf]) -> Result<Vec<Source>> {
     for path in paths {
         if path.as_os_str() == "-" {
             let mut bytes = Vec::new();
-            std::io::stdin().lock().read_to_end(&mut bytes).map_err(|e| Stop::Because(format!("standard input: {e}")))?;
+            std::io::stdin()
+                .lock()
+                .read_to_end(&mut bytes)
+                .map_err(|e| Stop::Because(format!("standard input: {e}")))?;
             sources.push(Source::new("standard input", bytes));
         } else if path.is_dir() {
             folder(path, &mut sources)?;

@@ -2,8 +2,8 @@
 
 use std::io::Write;
 
-use rizhavaan_core::kinds::Kinds;
 use rizhavaan_core::json::{pair_words, FoundJson};
+use rizhavaan_core::kinds::Kinds;
 use rizhavaan_core::summary::Summary;
 use rizhavaan_core::{chosen, Choice, Document, Found, Loaded, Options};
 

@@ -41,7 +41,11 @@ pub fn table<'a>(
     Ok(())
 }
 
-fn line<'a>(out: &mut dyn Write, widths: &[usize], names: impl ExactSizeIterator<Item = Cow<'a, str>>) -> io::Result<()> {
+fn line<'a>(
+    out: &mut dyn Write,
+    widths: &[usize],
+    names: impl ExactSizeIterator<Item = Cow<'a, str>>,
+) -> io::Result<()> {
     let last = names.len() - 1;
     for (i, name) in names.enumerate() {
         out.write_all(name.as_bytes())?;

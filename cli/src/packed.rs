@@ -31,7 +31,9 @@ pub fn pack(arguments: &Pack) -> Result<u8> {
             return Err(Stop::Because(reason));
         }
     };
-    for fault in [&document.changes_fault, &pattern.and_then(|p| p.fault.clone()), &pattern.and_then(|p| p.plan_fault.clone())] {
+    for fault in
+        [&document.changes_fault, &pattern.and_then(|p| p.fault.clone()), &pattern.and_then(|p| p.plan_fault.clone())]
+    {
         if let Some(fault) = fault {
             faults::show_each(&read.reading.texts, &[fault]);
         }
@@ -73,12 +75,11 @@ pub fn unpack(folder: &Path) -> Result<String> {
         return Err(Stop::Because(format!("{}: no {g}, {q}, {p} or {c}", folder.display())));
     }
     let names = read(folder, Packed::NAMES)?;
-    let packed = Packed::from_files(files).map_err(|(name, fault)| {
-        Stop::Because(format!("{}: {fault}", folder.join(name).display()))
-    })?;
-    packed.to_text(names.as_deref()).map_err(|reason| {
-        Stop::Because(format!("{}: {reason}", folder.join(Packed::NAMES).display()))
-    })
+    let packed = Packed::from_files(files)
+        .map_err(|(name, fault)| Stop::Because(format!("{}: {fault}", folder.join(name).display())))?;
+    packed
+        .to_text(names.as_deref())
+        .map_err(|reason| Stop::Because(format!("{}: {reason}", folder.join(Packed::NAMES).display())))
 }
 
 /// The bytes of a file, or nothing if there is no such file.

@@ -65,7 +65,8 @@ fn draw(description: &str, form: &str) -> Result<Vec<u8>> {
     if !["svg", "png", "pdf"].contains(&form) {
         return Err(Stop::Because(format!("a picture is .svg, .png, .pdf or .dot, not .{form}")));
     }
-    let missing = "Graphviz draws the picture, and its program 'dot' does not start: apt-get install graphviz, or write the \
+    let missing =
+        "Graphviz draws the picture, and its program 'dot' does not start: apt-get install graphviz, or write the \
                    description with -o rig.dot";
     let started = Command::new("dot").arg(format!("-T{form}")).stdin(Stdio::piped()).stdout(Stdio::piped()).spawn();
     let mut child = started.map_err(|_| Stop::Because(missing.into()))?;

@@ -106,7 +106,8 @@ trusses
     assert_eq!((status, out.as_str()), (1, expected), "{err}");
     let (status, out, err) = run(&dir, &["diff", "hang.txt", "after.txt", "--patterns", "rules.txt"]);
     assert_eq!((status, out.as_str()), (1, expected), "{err}");
-    let (status, out, _) = run(&dir, &["diff", "hang.txt", "after.txt", "--patterns", "rules.txt", "-p", "trusses", "--json"]);
+    let (status, out, _) =
+        run(&dir, &["diff", "hang.txt", "after.txt", "--patterns", "rules.txt", "-p", "trusses", "--json"]);
     let value: Value = serde_json::from_str(&out).unwrap();
     assert_eq!((status, &value["patterns"][0]["kept"]), (0, &serde_json::json!([["t", "p1"], ["t", "p2"]])));
     let (status, _, err) = run(&dir, &["diff", "hang.txt", "--patterns", "rules.txt"]);
@@ -151,7 +152,8 @@ fn pictures() {
     assert_eq!(dot.matches("penwidth=2").count(), 2, "{dot}");
     assert_eq!(dot.matches(" -> ").count(), 4, "{dot}");
     // Without Graphviz it says how to have it.
-    let output = program(&dir).args(["picture", "hang.txt", "rules.txt", "-o", "rig.svg"]).env("PATH", "").output().unwrap();
+    let output =
+        program(&dir).args(["picture", "hang.txt", "rules.txt", "-o", "rig.svg"]).env("PATH", "").output().unwrap();
     let err = String::from_utf8(output.stderr).unwrap();
     assert!(output.status.code() == Some(2) && err.contains("apt-get install graphviz"), "{err}");
     assert!(!dir.join("rig.svg").exists());
@@ -171,7 +173,9 @@ fn pictures() {
 #[test]
 fn help_and_completion() {
     let dir = folder("help");
-    for command in ["find", "check", "diff", "explain", "picture", "sql", "import", "export", "pack", "unpack", "completion"] {
+    for command in
+        ["find", "check", "diff", "explain", "picture", "sql", "import", "export", "pack", "unpack", "completion"]
+    {
         let (status, out, _) = run(&dir, &[command, "--help"]);
         assert!(status == 0 && out.contains("Example:"), "{command}: {out}");
     }

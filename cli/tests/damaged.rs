@@ -1,8 +1,8 @@
 //! Damaged texts and tables: each has an answer or errors by line, and none panics.
 
+mod common;
 #[path = "../src/engine.rs"]
 mod engine;
-mod common;
 
 use std::fs;
 use std::time::{Duration, Instant};
@@ -70,8 +70,20 @@ fn damage(r: &mut Numbers, bytes: &mut Vec<u8>) {
             bytes.splice(to..to, part);
         }
         6 => {
-            let words: [&[u8]; 12] =
-                [b"\"", b"->", b" -any-> ", b"[query x]\n", b"\n", b",", b"#", b": ", b"expect 0\n", b"\xff", b"vertices 9999 ", b"99999999999"];
+            let words: [&[u8]; 12] = [
+                b"\"",
+                b"->",
+                b" -any-> ",
+                b"[query x]\n",
+                b"\n",
+                b",",
+                b"#",
+                b": ",
+                b"expect 0\n",
+                b"\xff",
+                b"vertices 9999 ",
+                b"99999999999",
+            ];
             let word = words[r.below(words.len())].to_vec();
             bytes.splice(at..at, word);
         }
@@ -86,7 +98,8 @@ fn damage(r: &mut Numbers, bytes: &mut Vec<u8>) {
 
 fn sources(r: &mut Numbers, originals: &[Vec<Source>]) -> Vec<Source> {
     if r.below(10) == 0 {
-        let bytes = |r: &mut Numbers, length: usize| -> Vec<u8> { (0..r.below(length)).map(|_| r.below(256) as u8).collect() };
+        let bytes =
+            |r: &mut Numbers, length: usize| -> Vec<u8> { (0..r.below(length)).map(|_| r.below(256) as u8).collect() };
         let names = ["noise.txt", "noise.csv"];
         return vec![Source::new(names[r.below(2)], bytes(r, 400))];
     }
@@ -113,8 +126,13 @@ fn go_through(sources: &[Source]) -> bool {
     let again = [Source::new("again.txt", text.as_str())];
     let again = read(&again);
     let again = again.document.unwrap_or_else(|| panic!("what was written is not read:\n{text}"));
-    assert_eq!(again.hang.as_ref().map(|h| (&h.graph, &h.names)), document.hang.as_ref().map(|h| (&h.graph, &h.names)), "{text}");
-    let queries = |d: &rizhavaan_core::Document| d.patterns.iter().map(|p| (p.query.clone(), p.plan.clone())).collect::<Vec<_>>();
+    assert_eq!(
+        again.hang.as_ref().map(|h| (&h.graph, &h.names)),
+        document.hang.as_ref().map(|h| (&h.graph, &h.names)),
+        "{text}"
+    );
+    let queries =
+        |d: &rizhavaan_core::Document| d.patterns.iter().map(|p| (p.query.clone(), p.plan.clone())).collect::<Vec<_>>();
     assert_eq!(queries(&again), queries(document), "{text}");
     let Ok(loaded) = Loaded::load(&Library, document) else { return true };
     tables::tables(document, loaded.hang);

@@ -42,7 +42,8 @@ fn the_documents() {
         for (command, expected) in shown(&fs::read_to_string(top.join(name)).unwrap()) {
             let arguments: Vec<&str> = command.split_whitespace().take_while(|word| *word != "#").collect();
             let (_, out, err) = run(&top, &arguments);
-            let trimmed = |text: &str| text.lines().map(str::trim_end).collect::<Vec<_>>().join("\n").trim().to_string();
+            let trimmed =
+                |text: &str| text.lines().map(str::trim_end).collect::<Vec<_>>().join("\n").trim().to_string();
             assert_eq!(trimmed(&out), trimmed(&expected), "{name}: {command}\n{err}");
             count += 1;
         }

@@ -112,12 +112,16 @@ fn json_of_one_and_of_several() {
     assert_eq!(value["vertices"], serde_json::json!(["truss", "pin", "motor"]));
     assert_eq!(value["rows"], serde_json::json!([["front", "p1", "m1"], ["back truss", "p2", "m3"]]));
     assert_eq!(value["plan"], serde_json::json!(["scan truss -bolted-> pin", "extend motor"]));
-    assert_eq!((&value["places"], &value["cost"], &value["build"], &value["probe"]), (&2.into(), &3.into(), &0.into(), &0.into()));
+    assert_eq!(
+        (&value["places"], &value["cost"], &value["build"], &value["probe"]),
+        (&2.into(), &3.into(), &0.into(), &0.into())
+    );
     assert_eq!(value["records"][0]["rows"], 2);
     assert_eq!(value["records"][1]["cost"], 3);
     let (status, out, _) = run(&dir, &["find", "hang.txt", "rules.txt", "--json"]);
     let value: Value = serde_json::from_str(&out).unwrap();
-    let titles: Vec<&str> = value["patterns"].as_array().unwrap().iter().map(|p| p["pattern"].as_str().unwrap()).collect();
+    let titles: Vec<&str> =
+        value["patterns"].as_array().unwrap().iter().map(|p| p["pattern"].as_str().unwrap()).collect();
     assert_eq!((status, titles), (0, vec!["two-motors", "lapsed", "lamps"]));
 }
 
@@ -128,7 +132,10 @@ fn csv_and_counts() {
     assert_eq!((status, out.as_str()), (0, "truss,pin,motor\r\nfront,p1,m1\r\nback truss,p2,m3\r\n"));
     assert_eq!(err, "2 places, all of them\n");
     let (status, _, err) = run(&dir, &["find", "hang.txt", "rules.txt", "--csv"]);
-    assert_eq!((status, err.as_str()), (2, "error: --csv lists one pattern; choose it with --pattern: two-motors, lapsed, lamps\n"));
+    assert_eq!(
+        (status, err.as_str()),
+        (2, "error: --csv lists one pattern; choose it with --pattern: two-motors, lapsed, lamps\n")
+    );
     let (status, out, _) = run(&dir, &["find", "hang.txt", "rules.txt", "-p", "lapsed", "--count"]);
     assert_eq!((status, out.as_str()), (0, "2\n"));
     let (status, out, _) = run(&dir, &["find", "hang.txt", "rules.txt", "--count"]);
@@ -188,9 +195,21 @@ fn a_disk_that_is_full() {
     let dir = folder("full");
     long(&dir);
     let full = || fs::OpenOptions::new().write(true).open("/dev/full").unwrap();
-    for arguments in [&["find", "long.txt"][..], &["find", "long.txt", "--count"], &["find", "long.txt", "--csv"], &["check", "long.txt"]] {
+    for arguments in [
+        &["find", "long.txt"][..],
+        &["find", "long.txt", "--count"],
+        &["find", "long.txt", "--csv"],
+        &["check", "long.txt"],
+    ] {
         let mut command = program(&dir);
-        fs::write(dir.join("long.txt"), fs::read_to_string(dir.join("long.txt")).unwrap().replace("[query]\n", "[query]\nexpect 1\n").replace("expect 1\nexpect 1\n", "expect 1\n")).unwrap();
+        fs::write(
+            dir.join("long.txt"),
+            fs::read_to_string(dir.join("long.txt"))
+                .unwrap()
+                .replace("[query]\n", "[query]\nexpect 1\n")
+                .replace("expect 1\nexpect 1\n", "expect 1\n"),
+        )
+        .unwrap();
         let output = command.args(arguments).stdout(full()).stderr(Stdio::piped()).output().unwrap();
         let err = String::from_utf8(output.stderr).unwrap();
         assert_eq!(output.status.code(), Some(2), "{arguments:?}: {err}");
@@ -245,10 +264,12 @@ fn plans_of_the_text_and_memory() {
         let value: Value = serde_json::from_str(&out).unwrap();
         (value["rows"].to_string(), value["plan"].to_string(), value["planFrom"].to_string())
     };
-    let given = (r#"[["0","2","1"],["0","1","2"]]"#.into(), r#"["scan 0 -1-> 2","extend 1"]"#.into(), r#""given""#.into());
+    let given =
+        (r#"[["0","2","1"],["0","1","2"]]"#.into(), r#"["scan 0 -1-> 2","extend 1"]"#.into(), r#""given""#.into());
     assert_eq!(rows(&[]), given);
     assert_eq!(rows(&["--plan", "given"]), given);
-    let drawn = (r#"[["0","1","2"],["0","2","1"]]"#.into(), r#"["scan 0 -1-> 1","extend 2"]"#.into(), r#""drawn""#.into());
+    let drawn =
+        (r#"[["0","1","2"],["0","2","1"]]"#.into(), r#"["scan 0 -1-> 1","extend 2"]"#.into(), r#""drawn""#.into());
     assert_eq!(rows(&["--plan", "drawn"]), drawn);
     long(&dir);
     let (status, out, err) = run(&dir, &["find", "long.txt", "--memory", "100K"]);
@@ -270,7 +291,12 @@ fn plans_of_the_text_and_memory() {
 fn standard_input_and_folders() {
     let dir = rig("input");
     use std::io::Write;
-    let mut child = program(&dir).args(["find", "-", "--count", "-p", "lapsed"]).stdin(Stdio::piped()).stdout(Stdio::piped()).spawn().unwrap();
+    let mut child = program(&dir)
+        .args(["find", "-", "--count", "-p", "lapsed"])
+        .stdin(Stdio::piped())
+        .stdout(Stdio::piped())
+        .spawn()
+        .unwrap();
     child.stdin.take().unwrap().write_all(format!("{HANG}{RULES}").as_bytes()).unwrap();
     assert_eq!(child.wait_with_output().unwrap().stdout, b"2\n");
     fs::create_dir(dir.join("tables")).unwrap();

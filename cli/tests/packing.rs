@@ -45,7 +45,8 @@ fn packs_beside_the_text_and_elsewhere() {
 #[test]
 fn what_comes_back() {
     let dir = folder("back");
-    let any = TEXT.replace("0 -1-> 1\n[plan]", "0 -any-> 1\n0 -1-> 1\n[plan]").replace("scan 0 -1-> 1", "scan 0 -any-> 1");
+    let any =
+        TEXT.replace("0 -1-> 1\n[plan]", "0 -any-> 1\n0 -1-> 1\n[plan]").replace("scan 0 -1-> 1", "scan 0 -any-> 1");
     comes_back(&dir, &any);
     is_refused(&dir, &any.replace("-any->", "-0->"), "6:4", "for an edge of any label write 'any', not 0");
     comes_back(&dir, &TEXT.replace("[plan]", "0 < 1\n[plan]"));
@@ -130,7 +131,8 @@ fn a_missing_section_leaves_its_file() {
     let query = TEXT.find("[query]").unwrap();
     assert_eq!(run(&dir, &["unpack", "."]).1, format!("[graph]\n{}", &TEXT[query..]));
     comes_back(&dir, TEXT);
-    fs::write(dir.join("two.txt"), TEXT.replace("[plan]\nscan 0 -1-> 1\n", "[query b]\nvertices 2\n0 -1-> 1\n")).unwrap();
+    fs::write(dir.join("two.txt"), TEXT.replace("[plan]\nscan 0 -1-> 1\n", "[query b]\nvertices 2\n0 -1-> 1\n"))
+        .unwrap();
     let (status, _, err) = run(&dir, &["pack", "two.txt"]);
     assert_eq!((status, err.as_str()), (2, "error: q.bin holds one pattern; choose it with --pattern: query, b\n"));
     assert_eq!(run(&dir, &["pack", "two.txt", "--pattern", "b"]), quiet());
@@ -141,10 +143,26 @@ fn a_missing_section_leaves_its_file() {
 fn warnings_pack() {
     let dir = folder("warnings");
     for (text, place, warning) in [
-        ("[query]\nvertices 3\n0 -1-> 1\n[plan]\nscan 0\n", "1:1", "the query is not connected; the engine will refuse this with 11"),
-        ("[query]\nvertices 3\n0 -1-> 1\n1 -1-> 2\n[plan]\nscan 0\n", "5:1", "vertex 2 is not covered; the engine will refuse this with 18"),
-        ("[query]\nvertices 2\n0 -1-> 1\n0 < 1\n1 < 0\n", "5:1", "the pairs above contradict 1 < 0; nothing will match"),
-        ("[graph]\nvertices 2\n0 -1-> 1\n[changes]\n+ 0 -1-> 1\n", "5:1", "the graph has the edge 0 -1-> 1 already; the engine will refuse this with 28"),
+        (
+            "[query]\nvertices 3\n0 -1-> 1\n[plan]\nscan 0\n",
+            "1:1",
+            "the query is not connected; the engine will refuse this with 11",
+        ),
+        (
+            "[query]\nvertices 3\n0 -1-> 1\n1 -1-> 2\n[plan]\nscan 0\n",
+            "5:1",
+            "vertex 2 is not covered; the engine will refuse this with 18",
+        ),
+        (
+            "[query]\nvertices 2\n0 -1-> 1\n0 < 1\n1 < 0\n",
+            "5:1",
+            "the pairs above contradict 1 < 0; nothing will match",
+        ),
+        (
+            "[graph]\nvertices 2\n0 -1-> 1\n[changes]\n+ 0 -1-> 1\n",
+            "5:1",
+            "the graph has the edge 0 -1-> 1 already; the engine will refuse this with 28",
+        ),
     ] {
         fs::write(dir.join("hang.txt"), text).unwrap();
         let (status, out, err) = run(&dir, &["pack", "hang.txt"]);

@@ -19,31 +19,21 @@ impl Day {
         if is_number(word) {
             return number("day", word, Day::NONE.0..=Day::LAST.0).map(Day);
         }
-        let [year, month, day] = parts(word).ok_or_else(|| {
-            format!(
-                "'{word}' is no day: write a date like 2026-11-15, or the days since 2000-01-01"
-            )
-        })?;
+        let [year, month, day] = parts(word)
+            .ok_or_else(|| format!("'{word}' is no day: write a date like 2026-11-15, or the days since 2000-01-01"))?;
         if !(1..=12).contains(&month) {
             return Err(format!("{word} is no date: there is no month {month}"));
         }
         let days = month_length(year, month);
         if !(1..=days).contains(&day) {
-            return Err(format!(
-                "{word} is no date: that month has days 1 to {days}"
-            ));
+            return Err(format!("{word} is no date: that month has days 1 to {days}"));
         }
         match number_of(year, month, day) {
-            Some(Day::NONE) => Err(format!(
-                "{word} would be day 0, which stands for no day; the first date is {}",
-                Day::FIRST
-            )),
+            Some(Day::NONE) => {
+                Err(format!("{word} would be day 0, which stands for no day; the first date is {}", Day::FIRST))
+            }
             Some(number) if number <= Day::LAST => Ok(number),
-            _ => Err(format!(
-                "{word} is not within {} to {}",
-                Day::FIRST,
-                Day::LAST
-            )),
+            _ => Err(format!("{word} is not within {} to {}", Day::FIRST, Day::LAST)),
         }
     }
 }
@@ -77,24 +67,16 @@ pub struct Days {
 
 impl Days {
     /// Every day, and none.
-    pub const ALL: Days = Days {
-        first: Day::NONE,
-        last: Day::LAST,
-    };
+    pub const ALL: Days = Days { first: Day::NONE, last: Day::LAST };
 
     /// The range of a word FIRST..LAST. An end that is left out is open.
     pub fn read(word: &str) -> Result<Self, String> {
-        let (first, last) = word
-            .split_once("..")
-            .ok_or_else(|| format!("'{word}' is no range FIRST..LAST of days"))?;
+        let (first, last) = word.split_once("..").ok_or_else(|| format!("'{word}' is no range FIRST..LAST of days"))?;
         let end = |word: &str, open: Day| match word {
             "" => Ok(open),
             _ => Day::read(word),
         };
-        let days = Days {
-            first: end(first, Days::ALL.first)?,
-            last: end(last, Days::ALL.last)?,
-        };
+        let days = Days { first: end(first, Days::ALL.first)?, last: end(last, Days::ALL.last)? };
         if days.is_reversed() {
             return Err(format!("the first day {first} is above the last {last}"));
         }

@@ -65,7 +65,10 @@ pub fn store_words(vertices: usize, edges: usize) -> usize {
 pub enum NoRun {
     Refused(Refusal),
     /// Scratch and list would take more bytes than are allowed.
-    Memory { scratch: usize, list: usize },
+    Memory {
+        scratch: usize,
+        list: usize,
+    },
 }
 
 /// A run that was accepted.

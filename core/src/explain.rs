@@ -67,7 +67,8 @@ fn words(out: &mut String, document: &Document, found: &Found) {
 
 /// The connections between a vertex and covered ones, in words.
 fn between(document: &Document, pattern: &Pattern, edges: &[Edge], v: u32, covered: &[u32]) -> String {
-    let joins = |e: &&Edge| (e.source == v && covered.contains(&e.target)) || (e.target == v && covered.contains(&e.source));
+    let joins =
+        |e: &&Edge| (e.source == v && covered.contains(&e.target)) || (e.target == v && covered.contains(&e.source));
     let words: Vec<String> = edges.iter().filter(joins).map(|e| document.pattern_edge(pattern, e)).collect();
     words.join(" and ")
 }

@@ -127,7 +127,9 @@ impl<'d> Loaded<'d> {
         let counts = applied.map_err(|refusal| Failure::Refused { what: "the changes", refusal })?;
         let expected = (self.hang.graph.vertices.len() as u64, edges.len() as u64);
         if counts != expected {
-            return Err(Failure::Check(format!("the changed hang has {counts:?} items and connections, not {expected:?}")));
+            return Err(Failure::Check(format!(
+                "the changed hang has {counts:?} items and connections, not {expected:?}"
+            )));
         }
         Ok(Loaded { document, hang: self.hang, store, edges: Cow::Owned(edges) })
     }

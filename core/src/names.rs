@@ -93,7 +93,8 @@ impl Names {
         let mut slot = hash as usize & mask;
         loop {
             let entry = self.table[slot];
-            let is_same = |e: Entry| e.hash == hash && self.text.as_bytes()[e.start as usize..e.end as usize] == *name.as_bytes();
+            let is_same =
+                |e: Entry| e.hash == hash && self.text.as_bytes()[e.start as usize..e.end as usize] == *name.as_bytes();
             if entry.next == 0 || is_same(entry) {
                 return slot;
             }

@@ -9,8 +9,8 @@ use crate::packed::edge::{Edge, ANY_LABEL};
 
 /// Colours of kinds, readable with black letters.
 const COLOURS: [&str; 12] = [
-    "#8dd3c7", "#ffffb3", "#bebada", "#fdb462", "#80b1d3", "#b3de69", "#fccde5", "#d9d9d9", "#ccebc5", "#ffed6f", "#e5c494",
-    "#a6cee3",
+    "#8dd3c7", "#ffffb3", "#bebada", "#fdb462", "#80b1d3", "#b3de69", "#fccde5", "#d9d9d9", "#ccebc5", "#ffed6f",
+    "#e5c494", "#a6cee3",
 ];
 
 /// Hangs of more items than this are drawn in part.
@@ -58,7 +58,11 @@ pub fn dot(document: &Document, hang: &Hang, found: Option<&Found>, all: bool) -
         "digraph hang {\n  rankdir=TB;\n  node [shape=box, style=filled, fontname=\"sans-serif\", fontsize=11];\n  \
          edge [fontname=\"sans-serif\", fontsize=9, color=\"#666666\"];\n",
     );
-    let _ = writeln!(out, "  labelloc=t;\n  fontname=\"sans-serif\";\n  label={};", text(&caption(found, count, drawn.len())));
+    let _ = writeln!(
+        out,
+        "  labelloc=t;\n  fontname=\"sans-serif\";\n  label={};",
+        text(&caption(found, count, drawn.len()))
+    );
     for &item in &drawn {
         let vertex = &hang.graph.vertices[item as usize];
         let name = hang.item(item);

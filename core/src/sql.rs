@@ -25,9 +25,9 @@ pub fn sql(document: &Document, hang: &Hang, pattern: &Pattern, query: &Query) -
          CREATE TEMPORARY TABLE item (number INTEGER PRIMARY KEY, name TEXT NOT NULL, kind INTEGER NOT NULL, day INTEGER NOT NULL);\n\
          CREATE TEMPORARY TABLE connection (source INTEGER NOT NULL, kind INTEGER NOT NULL, target INTEGER NOT NULL);\n",
     );
-    let items = (0..).zip(&hang.graph.vertices).map(|(number, item)| {
-        format!("({number},{},{},{})", text(&hang.item(number)), item.label, item.day.0)
-    });
+    let items = (0..)
+        .zip(&hang.graph.vertices)
+        .map(|(number, item)| format!("({number},{},{},{})", text(&hang.item(number)), item.label, item.day.0));
     insert(&mut out, "item", items);
     let edges = hang.graph.edges.iter().map(|e| format!("({},{},{})", e.source, e.label, e.target));
     insert(&mut out, "connection", edges);

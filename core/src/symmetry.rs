@@ -38,7 +38,8 @@ fn keeps(query: &Query, images: &[u8]) -> bool {
     let image = |v: u32| u32::from(images[v as usize]);
     (0..last).all(|v| {
         [(v, last), (last, v)].iter().all(|&(a, b)| {
-            let edges = |a: u32, b: u32| query.edges.iter().filter(move |e| e.source == a && e.target == b).map(|e| e.label);
+            let edges =
+                |a: u32, b: u32| query.edges.iter().filter(move |e| e.source == a && e.target == b).map(|e| e.label);
             let is_pair = |low: u32, high: u32| query.pairs.contains(&Pair { low, high });
             edges(a, b).eq(edges(image(a), image(b))) && is_pair(a, b) == is_pair(image(a), image(b))
         })

@@ -3,11 +3,11 @@
 
 mod common;
 
+use common::{parse, Parsed};
 use rizhavaan_core::packed::change::{broken_rule, Change, Changes};
 use rizhavaan_core::packed::edge::Edge;
 use rizhavaan_core::packed::graph::Graph;
 use rizhavaan_core::packing::Packed;
-use common::{parse, Parsed};
 
 /// A truss, a motor and vertex 2, with two edges and these lines of changes: the first is line 8.
 fn rig(lines: &str) -> String {
@@ -44,13 +44,7 @@ fn changes_are_sorted_and_come_back() {
     let lines = "+ 2 -1-> 2 # here\n - motor  -255-> 2\n+ 0 -5-> 2\n- 0 -5-> 1\n+ truss -1-> 2\n";
     assert_eq!(
         changes(lines),
-        [
-            (true, 0, 1, 2),
-            (false, 0, 5, 1),
-            (true, 0, 5, 2),
-            (false, 1, 255, 2),
-            (true, 2, 1, 2)
-        ]
+        [(true, 0, 1, 2), (false, 0, 5, 1), (true, 0, 5, 2), (false, 1, 255, 2), (true, 2, 1, 2)]
     );
     assert_eq!(warning(lines), None);
     let hang = parsed(lines).hang;
@@ -73,9 +67,7 @@ fn the_bits() {
         "00",
     ];
     let bits: Vec<u8> = fields.concat().bytes().filter(|b| *b != b' ').collect();
-    let packed = bits
-        .chunks(8)
-        .map(|byte| byte.iter().fold(0, |value, bit| 2 * value + bit - b'0'));
+    let packed = bits.chunks(8).map(|byte| byte.iter().fold(0, |value, bit| 2 * value + bit - b'0'));
     let packed: Vec<u8> = packed.collect();
     assert_eq!(bytes("+ 2 -1-> truss\n- truss -5-> motor\n"), packed);
 }
@@ -98,14 +90,8 @@ fn faulty_changes() {
         ("+ 0 -0-> 1", "edge label 0 is not within 1 to 255"),
         ("- 0 -256-> 1", "edge label 256 is not within 1 to 255"),
         ("+ 0 --> 1", "edge label '' is no number"),
-        (
-            "+ 0 -any-> 1",
-            "'any' is for query edges; a graph edge has a label",
-        ),
-        (
-            "- 0 -any-> 1",
-            "'any' is for query edges; a graph edge has a label",
-        ),
+        ("+ 0 -any-> 1", "'any' is for query edges; a graph edge has a label"),
+        ("- 0 -any-> 1", "'any' is for query edges; a graph edge has a label"),
         ("+ 0 -> 1", "'->' is no arrow -LABEL->"),
         ("+ 0 -5-> 2", "the edge stands at line 8 already"),
         ("- truss -5-> 2", "the edge stands at line 8 already"),
@@ -113,48 +99,26 @@ fn faulty_changes() {
         let text = rig(&format!("+ 0 -5-> 2\n{line}\n"));
         assert_eq!(refused(&text), format!("9: {message}"));
     }
-    for line in [
-        "0 -1-> 1",
-        "+0 -1-> 1",
-        "+ 0 -1-> 1 2",
-        "+",
-        "- 0",
-        "* 0 -1-> 1",
-        "vertex pin",
-        "+ vertex pin",
-    ] {
+    for line in ["0 -1-> 1", "+0 -1-> 1", "+ 0 -1-> 1 2", "+", "- 0", "* 0 -1-> 1", "vertex pin", "+ vertex pin"] {
         let message = refused(&rig(&format!("{line}\n")));
-        assert!(
-            message.starts_with("8: expected '+ A -L-> B', an edge to add"),
-            "{message}"
-        );
+        assert!(message.starts_with("8: expected '+ A -L-> B', an edge to add"), "{message}");
     }
     // A sign belongs to changes alone.
     let message = refused("[graph]\nvertices 2\n+ 0 -1-> 1\n");
-    assert!(
-        message.starts_with("3: expected an item 'NAME: KIND'"),
-        "{message}"
-    );
+    assert!(message.starts_with("3: expected an item 'NAME: KIND'"), "{message}");
 }
 
 /// What the engine will refuse is packed, with a warning at the first line that is at fault.
 #[test]
 fn changes_that_do_not_apply() {
-    let said = |line: usize, reason: &str| {
-        Some(format!(
-            "{line}: {reason}; the engine will refuse this with 28"
-        ))
-    };
+    let said = |line: usize, reason: &str| Some(format!("{line}: {reason}; the engine will refuse this with 28"));
     assert_eq!(warning(""), None);
     assert_eq!(warning("- 0 -5-> 1\n- 1 -255-> 2\n+ 1 -5-> 0\n"), None);
     assert_eq!(
         warning("+ 1 -5-> 0\n+ truss -5-> motor\n- 2 -1-> 2\n"),
         said(9, "the graph has the edge truss -5-> motor already")
     );
-    assert_eq!(
-        warning("- 2 -1-> 2\n+ truss -5-> motor\n"),
-        said(8, "the graph has no edge 2 -1-> 2")
-    );
+    assert_eq!(warning("- 2 -1-> 2\n+ truss -5-> motor\n"), said(8, "the graph has no edge 2 -1-> 2"));
     assert_eq!(changes("+ truss -5-> motor\n"), [(true, 0, 5, 1)]);
     // It is said before what is wrong with the pattern.
     let text = rig("- 2 -1-> 2\n") + "[query]\nvertices 3\n0 -1-> 1\n";
@@ -167,11 +131,7 @@ fn changes_that_do_not_apply() {
 
 /// Edge i of a graph of 65 vertices, which has room for more than 1,048,575 of them.
 fn edge(i: u32) -> Edge {
-    Edge {
-        source: i / 255 / 65,
-        label: 1 + i / 65 % 255,
-        target: i % 65,
-    }
+    Edge { source: i / 255 / 65, label: 1 + i / 65 % 255, target: i % 65 }
 }
 
 const MOST: u32 = 1_048_575;
@@ -207,10 +167,7 @@ fn more_changes_than_a_file_has() {
     let text = format!("[graph]\nvertices 65\n[changes]\n{lines}");
     let message = format!("{}: more than 1048575 changes", MOST + 4);
     assert_eq!(refused(&text), message);
-    let change = |i| Change {
-        adds: true,
-        edge: edge(i),
-    };
+    let change = |i| Change { adds: true, edge: edge(i) };
     let changes = Changes::new((0..MOST).map(change).collect());
     let file = changes.to_bytes();
     assert_eq!(file.len(), (20 + 41 * MOST as usize).div_ceil(8));
@@ -231,10 +188,7 @@ fn rules_by_trial() {
         for set in 0..16 {
             for signs in 0..16 {
                 let adds = |i: usize| signs >> i & 1 == 1;
-                let change = |i: usize| Change {
-                    adds: adds(i),
-                    edge: edges[i],
-                };
+                let change = |i: usize| Change { adds: adds(i), edge: edges[i] };
                 let changes: Vec<Change> = chosen(set).map(change).collect();
                 let unfit = chosen(set).position(|i| adds(i) == (present >> i & 1 == 1));
                 let broken = broken_rule(&graph, &changes, &|e| e.to_string());

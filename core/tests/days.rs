@@ -2,8 +2,8 @@
 
 mod common;
 
-use rizhavaan_core::day::{Day, Days};
 use common::parse;
+use rizhavaan_core::day::{Day, Days};
 
 /// What a day is refused with.
 fn refused(word: &str) -> String {
@@ -45,11 +45,7 @@ fn dates_and_their_numbers() {
 
 /// The date after a date. Of the years here that 4 divides, 2100 alone is no leap year.
 fn next((year, month, day): (u32, u32, u32)) -> (u32, u32, u32) {
-    let february = if year % 4 == 0 && year != 2100 {
-        29
-    } else {
-        28
-    };
+    let february = if year % 4 == 0 && year != 2100 { 29 } else { 28 };
     let lengths = [31, february, 31, 30, 31, 30, 31, 31, 30, 31, 30, 31];
     match (month, day) {
         (12, 31) => (year + 1, 1, 1),
@@ -93,13 +89,7 @@ fn leap_years() {
 fn the_ends_of_the_calendar() {
     let zero = "2000-01-01 would be day 0, which stands for no day; the first date is 2000-01-02";
     assert_eq!(refused("2000-01-01"), zero);
-    for date in [
-        "0000-01-01",
-        "1999-12-31",
-        "2179-06-07",
-        "2180-01-01",
-        "9999-12-31",
-    ] {
+    for date in ["0000-01-01", "1999-12-31", "2179-06-07", "2180-01-01", "9999-12-31"] {
         let message = format!("{date} is not within 2000-01-02 to 2179-06-06");
         assert_eq!(refused(date), message);
     }
@@ -139,9 +129,7 @@ fn words_that_are_no_day() {
         "２026-11-15",
         "2026-11-15T08",
     ] {
-        let message = format!(
-            "'{word}' is no day: write a date like 2026-11-15, or the days since 2000-01-01"
-        );
+        let message = format!("'{word}' is no day: write a date like 2026-11-15, or the days since 2000-01-01");
         assert_eq!(refused(word), message);
     }
 }
@@ -149,12 +137,7 @@ fn words_that_are_no_day() {
 #[test]
 fn ranges_of_days() {
     for (word, first, last, shown) in [
-        (
-            "2025-01-01..2026-06-30",
-            9_132,
-            9_677,
-            "2025-01-01..2026-06-30",
-        ),
+        ("2025-01-01..2026-06-30", 9_132, 9_677, "2025-01-01..2026-06-30"),
         ("..2026-06-30", 0, 9_677, "..2026-06-30"),
         ("2025-01-01..", 9_132, 65_535, "2025-01-01.."),
         ("..", 0, 65_535, ".."),
@@ -164,12 +147,7 @@ fn ranges_of_days() {
         ("0..0", 0, 0, "..0"),
         ("..0", 0, 0, "..0"),
         ("65535..", 65_535, 65_535, "2179-06-06.."),
-        (
-            "2026-11-15..2026-11-15",
-            9_815,
-            9_815,
-            "2026-11-15..2026-11-15",
-        ),
+        ("2026-11-15..2026-11-15", 9_815, 9_815, "2026-11-15..2026-11-15"),
     ] {
         let days = Days::read(word).unwrap();
         assert_eq!((days.first.0, days.last.0), (first, last));
@@ -199,27 +177,12 @@ fn faulty_days_of_a_graph() {
     let expected = "expected an item 'NAME: KIND' or 'vertex NAME', several 'vertices COUNT', each with 'label L' \
                     and 'day D' after it or without; or a connection 'A -KIND-> B' with blanks around the arrow";
     for (words, message) in [
-        (
-            "day 2026-02-29",
-            "2026-02-29 is no date: that month has days 1 to 28",
-        ),
-        (
-            "label 3 day 2000-01-01",
-            "2000-01-01 would be day 0, which stands for no day; the first date is 2000-01-02",
-        ),
+        ("day 2026-02-29", "2026-02-29 is no date: that month has days 1 to 28"),
+        ("label 3 day 2000-01-01", "2000-01-01 would be day 0, which stands for no day; the first date is 2000-01-02"),
         ("day 65536", "day 65536 is not within 0 to 65535"),
-        (
-            "label 65536 day 2026-02-29",
-            "vertex label 65536 is not within 0 to 65535",
-        ),
-        (
-            "label 3 inspected ..2026-06-30",
-            "'inspected' is for query vertices; a graph vertex has 'day D'",
-        ),
-        (
-            "day 5..6",
-            "'5..6' is no day: write a date like 2026-11-15, or the days since 2000-01-01",
-        ),
+        ("label 65536 day 2026-02-29", "vertex label 65536 is not within 0 to 65535"),
+        ("label 3 inspected ..2026-06-30", "'inspected' is for query vertices; a graph vertex has 'day D'"),
+        ("day 5..6", "'5..6' is no day: write a date like 2026-11-15, or the days since 2000-01-01"),
         ("day", expected),
         ("label 3 day", expected),
         ("day 5 label 3", expected),
@@ -243,12 +206,7 @@ fn days_of_a_query() {
     let query = parse(text.as_bytes()).unwrap().hang.query.unwrap();
     let days = |v: &rizhavaan_core::packed::query::Vertex| (v.label, v.days.first.0, v.days.last.0);
     let vertices: Vec<(u32, u32, u32)> = query.vertices.iter().map(days).collect();
-    let expected = [
-        (3, 9_132, 9_677),
-        (0, 0, 9_677),
-        (0, 0, 9_677),
-        (0, 0, 65_535),
-    ];
+    let expected = [(3, 9_132, 9_677), (0, 0, 9_677), (0, 0, 9_677), (0, 0, 65_535)];
     assert_eq!(vertices, expected);
 }
 
@@ -258,36 +216,15 @@ fn faulty_days_of_a_query() {
                     and 'inspected FIRST..LAST' after it or without; a connection 'A -KIND-> B' with blanks around \
                     the arrow; a pair 'A < B'; or 'expect 0'";
     for (words, message) in [
-        (
-            "inspected 2026-06-30..2025-01-01",
-            "the first day 2026-06-30 is above the last 2025-01-01",
-        ),
-        (
-            "label 3 inspected 1..0",
-            "the first day 1 is above the last 0",
-        ),
-        (
-            "inspected 2000-01-01..",
-            "2000-01-01 would be day 0, which stands for no day; the first date is 2000-01-02",
-        ),
-        (
-            "inspected ..2100-02-29",
-            "2100-02-29 is no date: that month has days 1 to 28",
-        ),
-        (
-            "inspected 2026-06-30",
-            "'2026-06-30' is no range FIRST..LAST of days",
-        ),
+        ("inspected 2026-06-30..2025-01-01", "the first day 2026-06-30 is above the last 2025-01-01"),
+        ("label 3 inspected 1..0", "the first day 1 is above the last 0"),
+        ("inspected 2000-01-01..", "2000-01-01 would be day 0, which stands for no day; the first date is 2000-01-02"),
+        ("inspected ..2100-02-29", "2100-02-29 is no date: that month has days 1 to 28"),
+        ("inspected 2026-06-30", "'2026-06-30' is no range FIRST..LAST of days"),
         ("inspected 5.6", "'5.6' is no range FIRST..LAST of days"),
-        (
-            "inspected 5...6",
-            "'.6' is no day: write a date like 2026-11-15, or the days since 2000-01-01",
-        ),
+        ("inspected 5...6", "'.6' is no day: write a date like 2026-11-15, or the days since 2000-01-01"),
         ("inspected 0..65536", "day 65536 is not within 0 to 65535"),
-        (
-            "label 3 day 2026-11-15",
-            "'day' is for graph vertices; a query vertex has 'inspected FIRST..LAST'",
-        ),
+        ("label 3 day 2026-11-15", "'day' is for graph vertices; a query vertex has 'inspected FIRST..LAST'"),
         ("inspected", expected),
         ("inspected 5 .. 6", expected),
         ("inspected ..6 label 3", expected),

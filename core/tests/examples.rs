@@ -6,8 +6,8 @@ mod common;
 use std::fs;
 use std::path::{Path, PathBuf};
 
-use rizhavaan_core::packing::{Files, Packed};
 use common::parse;
+use rizhavaan_core::packing::{Files, Packed};
 
 fn examples() -> Vec<PathBuf> {
     let folder = Path::new(env!("CARGO_MANIFEST_DIR")).join("../examples");
@@ -46,10 +46,7 @@ fn the_refused_example_is_warned_of() {
         let expected = fs::read_to_string(example.join("expected.txt")).unwrap();
         let warning = parse(&text(&example)).unwrap().warning;
         match expected.trim_end().strip_prefix("refused ") {
-            Some(refusal) => assert!(warning
-                .unwrap()
-                .reason
-                .ends_with(&format!("with {refusal}"))),
+            Some(refusal) => assert!(warning.unwrap().reason.ends_with(&format!("with {refusal}"))),
             None => assert_eq!(warning, None),
         }
     }
@@ -87,28 +84,20 @@ fn the_pairs_of_the_equal_slings() {
     let is_pair = |line: &&str| line.contains(" < ");
     let others: Vec<&str> = text.lines().filter(|line| !is_pair(line)).collect();
     assert_eq!(text.lines().filter(is_pair).count(), 2);
-    let table = readme
-        .lines()
-        .filter(|line| line.starts_with("| none") || line.starts_with("| `"));
+    let table = readme.lines().filter(|line| line.starts_with("| none") || line.starts_with("| `"));
     let read: Vec<(Vec<(u32, u32)>, bool)> = table
         .map(|line| {
             let cell = line.split('|').nth(1).unwrap();
             let pairs: Vec<&str> = cell.split('`').filter(is_pair).collect();
-            let text = others
-                .join("\n")
-                .replace("[plan]", &(pairs.join("\n") + "\n[plan]"));
+            let text = others.join("\n").replace("[plan]", &(pairs.join("\n") + "\n[plan]"));
             let parsed = parse(text.as_bytes()).unwrap();
             let pairs = parsed.hang.query.unwrap().pairs;
             let warned = parsed.warning.is_some();
             (pairs.iter().map(|p| (p.low, p.high)).collect(), warned)
         })
         .collect();
-    let expected: [(&[(u32, u32)], bool); 4] = [
-        (&[], false),
-        (&[(0, 1)], false),
-        (&[(0, 1), (1, 2)], false),
-        (&[(0, 1), (1, 0)], true),
-    ];
+    let expected: [(&[(u32, u32)], bool); 4] =
+        [(&[], false), (&[(0, 1)], false), (&[(0, 1), (1, 2)], false), (&[(0, 1), (1, 0)], true)];
     let expected = expected.map(|(pairs, warned)| (pairs.to_vec(), warned));
     assert_eq!(read, expected);
 }
@@ -118,10 +107,7 @@ struct Numbers(u64);
 
 impl Numbers {
     fn below(&mut self, bound: usize) -> usize {
-        self.0 = self
-            .0
-            .wrapping_mul(6_364_136_223_846_793_005)
-            .wrapping_add(1);
+        self.0 = self.0.wrapping_mul(6_364_136_223_846_793_005).wrapping_add(1);
         (self.0 >> 33) as usize % bound
     }
 

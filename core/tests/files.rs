@@ -52,14 +52,8 @@ fn graphs() {
     assert_eq!(refusal(graph("0001 00001 00000000 0000010001 0")), 3);
     assert_eq!(refusal(graph("0001 00001 00000000 0001010000 0")), 3);
     assert_eq!(refusal(graph("0001 00001 00000000 0000000000 0")), 3);
-    assert_eq!(
-        refusal(graph("0001 00002 00000000 0000010000 0000010000 0")),
-        4
-    );
-    assert_eq!(
-        refusal(graph("0001 00002 00000000 0000020000 0000010000 0")),
-        4
-    );
+    assert_eq!(refusal(graph("0001 00002 00000000 0000010000 0000010000 0")), 4);
+    assert_eq!(refusal(graph("0001 00002 00000000 0000020000 0000010000 0")), 4);
 }
 
 #[test]
@@ -72,63 +66,21 @@ fn queries() {
     assert_eq!(refusal(query("90 80")), 8);
     assert_eq!(refusal(query("20 00")), 8);
     assert_eq!(refusal(query("2c 80")), 8);
-    assert_eq!(
-        refusal(query("20 80 00 00 00 7f ff 80 00 00 00 7f ff 82")),
-        6
-    );
+    assert_eq!(refusal(query("20 80 00 00 00 7f ff 80 00 00 00 7f ff 82")), 6);
     // The pair count has its first bit in the byte that the edge ends in.
-    assert_eq!(
-        refusal(query("20 80 00 00 00 7f ff 80 00 00 00 7f ff 82 02")),
-        6
-    );
-    assert_eq!(
-        refusal(query("20 80 00 00 00 7f ff 80 00 00 00 7f ff 82 02 00 00")),
-        7
-    );
-    assert_eq!(
-        refusal(query("20 80 00 00 00 7f ff 80 00 00 00 7f ff 82 02 01")),
-        7
-    );
-    assert_eq!(
-        refusal(query("20 80 00 00 00 7f ff 80 00 00 00 7f ff 84 02 00")),
-        9
-    );
-    assert_eq!(
-        refusal(query("20 80 00 00 00 7f ff 80 00 00 00 7f ff a0 02 00")),
-        9
-    );
-    assert_eq!(
-        refusal(query("20 80 00 00 00 7f ff 80 00 00 00 7f ff 80 02 00")),
-        9
-    );
+    assert_eq!(refusal(query("20 80 00 00 00 7f ff 80 00 00 00 7f ff 82 02")), 6);
+    assert_eq!(refusal(query("20 80 00 00 00 7f ff 80 00 00 00 7f ff 82 02 00 00")), 7);
+    assert_eq!(refusal(query("20 80 00 00 00 7f ff 80 00 00 00 7f ff 82 02 01")), 7);
+    assert_eq!(refusal(query("20 80 00 00 00 7f ff 80 00 00 00 7f ff 84 02 00")), 9);
+    assert_eq!(refusal(query("20 80 00 00 00 7f ff 80 00 00 00 7f ff a0 02 00")), 9);
+    assert_eq!(refusal(query("20 80 00 00 00 7f ff 80 00 00 00 7f ff 80 02 00")), 9);
     // An edge of label 0 is one of any label; its ends are as for the others.
     assert!(query("20 80 00 00 00 7f ff 80 00 00 00 7f ff 82 00 00").is_ok());
-    assert_eq!(
-        refusal(query("20 80 00 00 00 7f ff 80 00 00 00 7f ff 84 00 00")),
-        9
-    );
-    assert_eq!(
-        refusal(query("20 80 00 00 00 7f ff 80 00 00 00 7f ff 80 00 00")),
-        9
-    );
-    assert_eq!(
-        refusal(query(
-            "21 00 00 00 00 7f ff 80 00 00 00 7f ff 82 02 08 08 00"
-        )),
-        10
-    );
-    assert_eq!(
-        refusal(query(
-            "21 00 00 00 00 7f ff 80 00 00 00 7f ff 82 02 08 00 00"
-        )),
-        10
-    );
-    assert_eq!(
-        refusal(query(
-            "21 00 00 00 00 7f ff 80 00 00 00 7f ff 82 00 08 00 00"
-        )),
-        10
-    );
+    assert_eq!(refusal(query("20 80 00 00 00 7f ff 80 00 00 00 7f ff 84 00 00")), 9);
+    assert_eq!(refusal(query("20 80 00 00 00 7f ff 80 00 00 00 7f ff 80 00 00")), 9);
+    assert_eq!(refusal(query("21 00 00 00 00 7f ff 80 00 00 00 7f ff 82 02 08 08 00")), 10);
+    assert_eq!(refusal(query("21 00 00 00 00 7f ff 80 00 00 00 7f ff 82 02 08 00 00")), 10);
+    assert_eq!(refusal(query("21 00 00 00 00 7f ff 80 00 00 00 7f ff 82 00 08 00 00")), 10);
     assert!(query("21 00 00 00 00 7f ff 80 00 00 00 7f ff 82 00 08 08 00").is_ok());
 }
 
@@ -179,17 +131,11 @@ fn days_of_a_query() {
         assert_eq!(refusal(Query::from_bytes(&[&file[..], &[0]].concat())), 7);
         let fill = [&file[..file.len() - 1], &[file[file.len() - 1] | 1]].concat();
         assert_eq!(refusal(Query::from_bytes(&fill)), 7);
-        assert_eq!(
-            refusal(Query::from_bytes(&[&[0x1f], &file[1..]].concat())),
-            8
-        );
+        assert_eq!(refusal(Query::from_bytes(&[&[0x1f], &file[1..]].concat())), 8);
     }
     assert_eq!(refusal(read([(5, 5), (6, 6)], (1, 1))), 9);
     let fault = read([(5, 5), (9_496, 1)], (0, 1)).unwrap_err();
-    assert_eq!(
-        fault.to_string(),
-        "vertex 1: first day 2025-12-31 above last day 2000-01-02 (refusal 25)"
-    );
+    assert_eq!(fault.to_string(), "vertex 1: first day 2025-12-31 above last day 2000-01-02 (refusal 25)");
 }
 
 /// The day follows each label; every number of 16 bits is one.
@@ -215,31 +161,13 @@ fn changes() {
     for length in 0..bytes(one).len() {
         assert_eq!(refusal(read(&bytes(one)[..length])), 27, "{length} bytes");
     }
-    assert_eq!(
-        fault("00001 00008 0800"),
-        "the file is too short (refusal 27)"
-    );
-    assert_eq!(
-        fault("00001 00008 08001000"),
-        "the file is too long (refusal 27)"
-    );
-    assert_eq!(
-        fault("00001 00008 080014"),
-        "a fill bit is set (refusal 27)"
-    );
+    assert_eq!(fault("00001 00008 0800"), "the file is too short (refusal 27)");
+    assert_eq!(fault("00001 00008 08001000"), "the file is too long (refusal 27)");
+    assert_eq!(fault("00001 00008 080014"), "a fill bit is set (refusal 27)");
     assert_eq!(fault("000001"), "a fill bit is set (refusal 27)");
-    assert_eq!(
-        fault("00001 00008 000010"),
-        "edge from 1 to 2: label 0 (refusal 27)"
-    );
-    assert_eq!(
-        fault("00001 00020 080010"),
-        "edge 4 -1-> 2: no such vertex (refusal 27)"
-    );
-    assert_eq!(
-        fault("00001 80008 080020"),
-        "edge 1 -1-> 4: no such vertex (refusal 27)"
-    );
+    assert_eq!(fault("00001 00008 000010"), "edge from 1 to 2: label 0 (refusal 27)");
+    assert_eq!(fault("00001 00020 080010"), "edge 4 -1-> 2: no such vertex (refusal 27)");
+    assert_eq!(fault("00001 80008 080020"), "edge 1 -1-> 4: no such vertex (refusal 27)");
     // 1 -1-> 2 twice, whatever the bits say; then 1 -1-> 3 and 1 -1-> 2.
     for second in [0, 1] {
         let mut out = BitWriter::default();

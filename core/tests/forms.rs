@@ -65,13 +65,22 @@ fn kinds_hold_for_all_files() {
 fn wrong_words_of_patterns() {
     let hang = "[graph]\na: motor\nb: truss\na -carries-> b\n";
     for (pattern, expected) in [
-        ("x: motr\ny: truss\nx -carries-> y\n", "rules.txt:2:4+4 error: no item of kind 'motr' is in the hang [did you mean 'motor'?]"),
+        (
+            "x: motr\ny: truss\nx -carries-> y\n",
+            "rules.txt:2:4+4 error: no item of kind 'motr' is in the hang [did you mean 'motor'?]",
+        ),
         (
             "x: motor\ny: truss\nx -caries-> y\n",
             "rules.txt:4:4+6 error: no connection of kind 'caries' is in the hang [did you mean 'carries'?]",
         ),
-        ("front: motor\ny: truss\nfrnt -carries-> y\n", "rules.txt:4:1+4 error: no vertex 'frnt' has been declared [did you mean 'front'?]"),
-        ("x: Motor\ny: truss\nx -carries-> y\n", "rules.txt:2:4+5 error: no item of kind 'Motor' is in the hang [did you mean 'motor'?]"),
+        (
+            "front: motor\ny: truss\nfrnt -carries-> y\n",
+            "rules.txt:4:1+4 error: no vertex 'frnt' has been declared [did you mean 'front'?]",
+        ),
+        (
+            "x: Motor\ny: truss\nx -carries-> y\n",
+            "rules.txt:2:4+5 error: no item of kind 'Motor' is in the hang [did you mean 'motor'?]",
+        ),
     ] {
         let rules = format!("[query q]\n{pattern}");
         assert_eq!(said(&[("hang.txt", hang), ("rules.txt", &rules)]), [expected], "{pattern}");
@@ -81,7 +90,10 @@ fn wrong_words_of_patterns() {
     assert!(said(&[("hang.txt", text)]).is_empty());
     // A number is a number, with a warning where nothing has it.
     let text = "[graph]\nvertices 2 label 3\n0 -1-> 1\n[query]\nvertex x label 4\nvertex y\nx -1-> y\n";
-    assert_eq!(said(&[("hang.txt", text)]), ["hang.txt:4:1+7 warning: no item of the hang has label 4; nothing will match"]);
+    assert_eq!(
+        said(&[("hang.txt", text)]),
+        ["hang.txt:4:1+7 warning: no item of the hang has label 4; nothing will match"]
+    );
 }
 
 #[test]
@@ -100,7 +112,19 @@ fn kinds_that_look_alike_are_warned_of() {
 
 #[test]
 fn names_as_people_have_them() {
-    let names = ["libstdc++6", "python3.11", "0ad", "Motor 3 (spare)", "Träger-Süd", "a->b", "-x", "x#y", "say \"hi\"", "vertex", "a:b"];
+    let names = [
+        "libstdc++6",
+        "python3.11",
+        "0ad",
+        "Motor 3 (spare)",
+        "Träger-Süd",
+        "a->b",
+        "-x",
+        "x#y",
+        "say \"hi\"",
+        "vertex",
+        "a:b",
+    ];
     let mut text = String::from("[graph]\n");
     for name in names {
         text += &format!("{}: thing\n", rizhavaan_core::text::words::quote(name));
@@ -141,7 +165,8 @@ fn several_patterns() {
                 [query \"the other\"]\nexpect at least 2\nvertices 2\n1 -1-> 0\n\
                 [query third]\nexpect at most 3\nvertices 2\n1 -1-> 0\n[plan \"the other\"]\nscan 0\n";
     let document = one(text);
-    let read: Vec<_> = document.patterns.iter().map(|p| (p.title(), p.sentence.as_deref(), p.expect, p.plan.is_some())).collect();
+    let read: Vec<_> =
+        document.patterns.iter().map(|p| (p.title(), p.sentence.as_deref(), p.expect, p.plan.is_some())).collect();
     assert_eq!(
         read,
         [
@@ -153,9 +178,11 @@ fn several_patterns() {
     let again = one(&write::document(&document));
     let titles: Vec<&str> = again.patterns.iter().map(|p| p.title()).collect();
     assert_eq!(titles, ["one", "the other", "third"]);
-    assert!(again.patterns.iter().zip(&document.patterns).all(|(a, b)| {
-        (&a.query, &a.plan, a.expect, &a.sentence) == (&b.query, &b.plan, b.expect, &b.sentence)
-    }));
+    assert!(again
+        .patterns
+        .iter()
+        .zip(&document.patterns)
+        .all(|(a, b)| { (&a.query, &a.plan, a.expect, &a.sentence) == (&b.query, &b.plan, b.expect, &b.sentence) }));
 }
 
 #[test]
@@ -189,8 +216,21 @@ fn vertices_named_expect_and_day() {
 fn all_errors_at_once() {
     let text = "[graph]\na: motor day 2026-02-30\nb: motor\na -carries-> c\nd -carries-> b\nb -x\n\"q: motor\n\
                 [query]\nx: motor inspected 5\ny: lamp\nx -lifts-> y\n";
-    let lines: Vec<String> = said(&[("hang.txt", text)]).iter().map(|s| s.split(" error").next().unwrap().to_string()).collect();
-    assert_eq!(lines, ["hang.txt:2:14+10", "hang.txt:4:14+1", "hang.txt:5:1+1", "hang.txt:6:1+4", "hang.txt:7:1+9", "hang.txt:9:20+1", "hang.txt:10:4+4", "hang.txt:11:4+5"]);
+    let lines: Vec<String> =
+        said(&[("hang.txt", text)]).iter().map(|s| s.split(" error").next().unwrap().to_string()).collect();
+    assert_eq!(
+        lines,
+        [
+            "hang.txt:2:14+10",
+            "hang.txt:4:14+1",
+            "hang.txt:5:1+1",
+            "hang.txt:6:1+4",
+            "hang.txt:7:1+9",
+            "hang.txt:9:20+1",
+            "hang.txt:10:4+4",
+            "hang.txt:11:4+5"
+        ]
+    );
 }
 
 #[test]

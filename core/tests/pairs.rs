@@ -3,11 +3,11 @@
 
 mod common;
 
+use common::{parse, Parsed};
 use rizhavaan_core::packed::bits::BitWriter;
 use rizhavaan_core::packed::edge::FileFault;
 use rizhavaan_core::packed::pair::{contradiction, Pair};
 use rizhavaan_core::packed::query::Query;
-use common::{parse, Parsed};
 
 /// A path of vertices a, b, c and 3, with these lines after it: the first is line 7.
 fn path(lines: &str) -> String {
@@ -41,10 +41,7 @@ fn pairs_are_sorted_and_come_back() {
     assert_eq!(pairs(""), []);
     assert_eq!(pairs("a < b\n"), [(0, 1)]);
     assert_eq!(pairs("3 < a # here\n b  <  c\n"), [(1, 2), (3, 0)]);
-    assert_eq!(
-        pairs("b < a\na < 3\na < b\na < 2\n"),
-        [(0, 1), (0, 2), (0, 3), (1, 0)]
-    );
+    assert_eq!(pairs("b < a\na < 3\na < b\na < 2\n"), [(0, 1), (0, 2), (0, 3), (1, 0)]);
     let hang = parsed("3 < a\nb < c\n").hang;
     let unpacked = "[query]\nvertices 4 label 0  # 0 to 3\n\
                     0 -1-> 1\n1 -1-> 2\n2 -1-> 3\n1 < 2\n3 < 0\n";
@@ -73,16 +70,12 @@ fn faulty_pairs() {
         ("b < c", "the pair stands at line 9 already"),
         ("1 < 2", "the pair stands at line 9 already"),
     ] {
-        assert_eq!(
-            refused(&path(&format!("b < c\n{line}\n"))),
-            format!("10: {message}")
-        );
+        assert_eq!(refused(&path(&format!("b < c\n{line}\n"))), format!("10: {message}"));
     }
     for line in ["a<b", "a < b < c", "a > b", "a <= b", "a <", "< a b"] {
         let message = refused(&path(&format!("{line}\n")));
         let arrow = line == "a > b" && message == "9: '>' is no arrow -LABEL->";
-        let expected = message.starts_with("9: expected a vertex 'NAME: KIND'")
-            && message.contains("; a pair 'A < B'");
+        let expected = message.starts_with("9: expected a vertex 'NAME: KIND'") && message.contains("; a pair 'A < B'");
         assert!(arrow || expected, "{message}");
     }
     let graph = "[graph]\nvertices 2\n0 < 1\n";
@@ -114,33 +107,18 @@ fn fifteen_pairs_and_no_more() {
 /// A contradiction is packed with a warning, at the pair that closes it.
 #[test]
 fn contradictions() {
-    for lines in [
-        "",
-        "a < b\n",
-        "a < b\nb < c\na < c\n",
-        "c < b\nb < a\n3 < a\n",
-    ] {
+    for lines in ["", "a < b\n", "a < b\nb < c\na < c\n", "c < b\nb < a\n3 < a\n"] {
         assert_eq!(warning(lines), None, "{lines}");
     }
-    let said = |line, pair| {
-        Some(format!(
-            "{line}: the pairs above contradict {pair}; nothing will match"
-        ))
-    };
+    let said = |line, pair| Some(format!("{line}: the pairs above contradict {pair}; nothing will match"));
     assert_eq!(warning("a < b\nb < a\n"), said(10, "b < a"));
     assert_eq!(warning("b < a\na < b\n"), said(10, "a < b"));
     assert_eq!(warning("a < b\n\nb < c\nc < a\n3 < a\n"), said(12, "c < a"));
-    assert_eq!(
-        warning("c < 3\nb < c\n3 < b\na < b\nb < a\n"),
-        said(11, "3 < b")
-    );
+    assert_eq!(warning("c < 3\nb < c\n3 < b\na < b\nb < a\n"), said(11, "3 < b"));
     assert_eq!(pairs("a < b\nb < a\n"), [(0, 1), (1, 0)]);
     // What the engine refuses is said first.
     let plan = "a < b\nb < a\n[plan]\nscan 0\n";
-    assert_eq!(
-        warning(plan).unwrap(),
-        "11: vertex c is not covered; the engine will refuse this with 18"
-    );
+    assert_eq!(warning(plan).unwrap(), "11: vertex c is not covered; the engine will refuse this with 18");
 }
 
 /// Every choice of pairs among three vertices: a contradiction is found where no order of the
@@ -148,14 +126,7 @@ fn contradictions() {
 #[test]
 fn contradictions_by_trial() {
     let ends: Vec<(u32, u32)> = vec![(0, 1), (0, 2), (1, 0), (1, 2), (2, 0), (2, 1)];
-    let places = [
-        [0, 1, 2],
-        [0, 2, 1],
-        [1, 0, 2],
-        [1, 2, 0],
-        [2, 0, 1],
-        [2, 1, 0],
-    ];
+    let places = [[0, 1, 2], [0, 2, 1], [1, 0, 2], [1, 2, 0], [2, 0, 1], [2, 1, 0]];
     for choice in 0..64 {
         let chosen = (0..6).filter(|i| choice >> i & 1 == 1).map(|i| ends[i]);
         let pairs: Vec<Pair> = chosen.map(|(low, high)| Pair { low, high }).collect();
@@ -201,12 +172,7 @@ const EDGES: &[(u32, u32)] = &[(0, 1), (1, 2)];
 fn faulty_pairs_of_a_file() {
     let read = |pairs: &[(u32, u32)]| Query::from_bytes(&file(3, EDGES, pairs));
     let fault = |pairs| -> FileFault { read(pairs).unwrap_err() };
-    for pairs in [
-        &[][..],
-        &[(0, 1)],
-        &[(2, 0)],
-        &[(0, 1), (0, 2), (1, 0), (2, 1)],
-    ] {
+    for pairs in [&[][..], &[(0, 1)], &[(2, 0)], &[(0, 1), (0, 2), (1, 0), (2, 1)]] {
         assert!(read(pairs).is_ok(), "{pairs:?}");
     }
     for (pairs, message) in [

@@ -25,7 +25,15 @@ impl Engine for Ready {
         Ok(self.plan.len() as u64)
     }
 
-    fn run(&self, _: &[u32], _: &[u8], _: &[u8], _: &mut [u32], list: &mut [u32], _: &mut [Record]) -> Result<Answer, Refusal> {
+    fn run(
+        &self,
+        _: &[u32],
+        _: &[u8],
+        _: &[u8],
+        _: &mut [u32],
+        list: &mut [u32],
+        _: &mut [Record],
+    ) -> Result<Answer, Refusal> {
         list[..self.rows.len()].copy_from_slice(&self.rows);
         Ok(Answer { rows: (self.rows.len() / self.width) as u64, ..Answer::default() })
     }
@@ -57,7 +65,8 @@ fn answer(rows: &[u32], counts: (u64, u64), plan: &[u8]) -> Result<Vec<u32>, Str
     let document = reading.document.unwrap();
     let engine = Ready { rows: rows.to_vec(), width: 3, counts, plan: plan.to_vec() };
     let loaded = Loaded::load(&engine, &document);
-    let found = loaded.and_then(|loaded| loaded.find(&engine, &document.patterns[0], &Options::default()).map(|found| found.rows));
+    let found = loaded
+        .and_then(|loaded| loaded.find(&engine, &document.patterns[0], &Options::default()).map(|found| found.rows));
     found.map_err(|failure| match failure {
         Failure::Check(sentence) => sentence,
         other => panic!("{other}"),

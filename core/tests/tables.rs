@@ -50,7 +50,8 @@ fn separators_ends_and_marks() {
     }
     let [items, connections] = [ITEMS, CONNECTIONS].map(|t| format!("\u{feff}{}", t.replace('\n', "\r\n")));
     assert_eq!(words(&document(&items, &connections)), EXPECTED);
-    let [items, connections] = [ITEMS, CONNECTIONS].map(|t| t.trim_end().replace("name", "Name").replace("kind", " KIND "));
+    let [items, connections] =
+        [ITEMS, CONNECTIONS].map(|t| t.trim_end().replace("name", "Name").replace("kind", " KIND "));
     assert_eq!(words(&document(&items, &connections)), EXPECTED);
 }
 
@@ -67,7 +68,8 @@ fn quotes_and_blank_lines() {
 
 #[test]
 fn both_ways() {
-    let items = "name,kind,day,weight,owner\nm1,motor,2026-04-20,\"12,5 kg\",\nm2,motor,,,\"A \"\"B\"\" Ltd\"\n0ad,3,,,\n";
+    let items =
+        "name,kind,day,weight,owner\nm1,motor,2026-04-20,\"12,5 kg\",\nm2,motor,,,\"A \"\"B\"\" Ltd\"\n0ad,3,,,\n";
     let connections = "from,kind,to\nm1,carries,m2\nm1,7,0ad\n";
     let first = document(items, connections);
     let hang = |d: &Document| -> Hang { d.hang.clone().unwrap() };
@@ -107,7 +109,10 @@ fn cells_that_are_wrong() {
         ("from,kind,to\n\"m1\",carries,\"t,2\"\n", "connections.csv:2:14+5 no item 't,2' has been declared"),
         ("from,kind,to\nm1,,t1\n", "connections.csv:2:4+0 a connection has a kind"),
         ("from,kind,to\nm1,0,t1\n", "connections.csv:2:4+1 edge label 0 is not within 1 to 255"),
-        ("from,kind,to\nm1,carries,t1\nm2,carries,t1\nm1,carries,t1\n", "connections.csv:4:1+0 the edge stands at line 2 already"),
+        (
+            "from,kind,to\nm1,carries,t1\nm2,carries,t1\nm1,carries,t1\n",
+            "connections.csv:4:1+0 the edge stands at line 2 already",
+        ),
     ] {
         assert_eq!(said(ITEMS, connections), [expected], "{connections}");
     }

@@ -2,10 +2,10 @@
 
 mod common;
 
+use common::parse;
 use rizhavaan_core::day::Day;
 use rizhavaan_core::packed::edge::Edge;
 use rizhavaan_core::packed::plan::Operator;
-use common::parse;
 
 const QUERY: &str = "[query]\nvertices 4\n0 -1-> 1\n1 -1-> 2\n2 -1-> 3\n";
 
@@ -27,11 +27,7 @@ fn plan(operators: &str) -> String {
 }
 
 fn edge(source: u32, label: u32, target: u32) -> Edge {
-    Edge {
-        source,
-        label,
-        target,
-    }
+    Edge { source, label, target }
 }
 
 #[test]
@@ -90,10 +86,7 @@ fn faulty_labels_of_query_edges() {
     for (line, message) in [
         ("0 -0-> 1", "for an edge of any label write 'any', not 0"),
         ("0 -256-> 1", "edge label 256 is not within 1 to 255"),
-        (
-            "0 -Any-> 1",
-            "no kind of connection 'Any' is known: there is no hang, and no [kinds]",
-        ),
+        ("0 -Any-> 1", "no kind of connection 'Any' is known: there is no hang, and no [kinds]"),
         ("0 --> 1", "edge label '' is no number"),
         ("0 any-> 1", "'any->' is no arrow -LABEL->"),
         ("0 -any-> 0", "a query edge joins two different vertices"),
@@ -115,26 +108,11 @@ fn faulty_sections() {
     for (text, message) in [
         ("", format!("1: no section; {expected}")),
         ("# nothing\n\n", format!("1: no section; {expected}")),
-        (
-            "\n0 -1-> 1\n[graph]\n",
-            format!("2: no section yet; {expected}"),
-        ),
-        (
-            "[graph]\n[gaph]\n",
-            format!("2: '[gaph]' is no section; {expected}"),
-        ),
-        (
-            "\n[graph]\n\n[graph]\n",
-            "4: a second [graph]; the first is at line 2".into(),
-        ),
-        (
-            "[graph]\n[plan]\nscan 0\n",
-            "2: a [plan] needs its [query]".into(),
-        ),
-        (
-            "[query]\nvertices 2\n0 -1-> 1\n[changes]\n",
-            "4: [changes] need their [graph]".into(),
-        ),
+        ("\n0 -1-> 1\n[graph]\n", format!("2: no section yet; {expected}")),
+        ("[graph]\n[gaph]\n", format!("2: '[gaph]' is no section; {expected}")),
+        ("\n[graph]\n\n[graph]\n", "4: a second [graph]; the first is at line 2".into()),
+        ("[graph]\n[plan]\nscan 0\n", "2: a [plan] needs its [query]".into()),
+        ("[query]\nvertices 2\n0 -1-> 1\n[changes]\n", "4: [changes] need their [graph]".into()),
     ] {
         assert_eq!(refused(text), message);
     }
@@ -150,43 +128,19 @@ fn text_that_is_not_utf8() {
 fn faulty_graph_lines() {
     for (line, message) in [
         ("vertices 65534", "more than 65535 vertices"),
-        (
-            "vertices 99999999999",
-            "count 99999999999 is not within 0 to 4294967295",
-        ),
+        ("vertices 99999999999", "count 99999999999 is not within 0 to 4294967295"),
         ("vertices -1", "count '-1' is no number"),
-        (
-            "vertices 1 label 65536",
-            "vertex label 65536 is not within 0 to 65535",
-        ),
-        (
-            "vertices 1 label +1",
-            "vertex label '+1' is no number",
-        ),
-        (
-            "vertex a->b",
-            "'a->b' is a word of the text form and no name: write it in quotes, \"a->b\"",
-        ),
+        ("vertices 1 label 65536", "vertex label 65536 is not within 0 to 65535"),
+        ("vertices 1 label +1", "vertex label '+1' is no number"),
+        ("vertex a->b", "'a->b' is a word of the text form and no name: write it in quotes, \"a->b\""),
         ("vertex pin", "'pin' is the name of vertex 1 already"),
-        (
-            "vertex vertices",
-            "'vertices' is a word of the text form and no name: write it in quotes, \"vertices\"",
-        ),
+        ("vertex vertices", "'vertices' is a word of the text form and no name: write it in quotes, \"vertices\""),
         ("0 -1-> 2", "no item '2' has been declared"),
-        (
-            "99999999999 -1-> 0",
-            "no item '99999999999' has been declared",
-        ),
+        ("99999999999 -1-> 0", "no item '99999999999' has been declared"),
         ("0 -1-> truss", "no item 'truss' has been declared"),
         ("0 -0-> pin", "edge label 0 is not within 1 to 255"),
-        (
-            "0 -any-> pin",
-            "'any' is for query edges; a graph edge has a label",
-        ),
-        (
-            "0 -256-> pin",
-            "edge label 256 is not within 1 to 255",
-        ),
+        ("0 -any-> pin", "'any' is for query edges; a graph edge has a label"),
+        ("0 -256-> pin", "edge label 256 is not within 1 to 255"),
         ("0 --> pin", "edge label '' is no number"),
         ("0 -> pin", "'->' is no arrow -LABEL->"),
         ("0 -1- pin", "'-1-' is no arrow -LABEL->"),
@@ -199,25 +153,13 @@ fn faulty_graph_lines() {
 
 #[test]
 fn lines_of_no_known_form() {
-    for line in [
-        "0-1->1",
-        "vertex",
-        "vertices",
-        "vertex a label",
-        "scan 0",
-    ] {
+    for line in ["0-1->1", "vertex", "vertices", "vertex a label", "scan 0"] {
         let message = refused(&format!("[graph]\n{line}\n"));
-        assert!(
-            message.starts_with("2: expected an item 'NAME: KIND'"),
-            "{message}"
-        );
+        assert!(message.starts_with("2: expected an item 'NAME: KIND'"), "{message}");
     }
     for line in ["scan", "scan a b", "extend", "extend 0 1", "join 1", "hash"] {
         let message = refused(&plan(line));
-        assert!(
-            message.starts_with("7: expected 'scan A -L-> B'"),
-            "{message}"
-        );
+        assert!(message.starts_with("7: expected 'scan A -L-> B'"), "{message}");
     }
 }
 
@@ -228,10 +170,7 @@ fn limits_of_a_query() {
         ("vertices 1", "1: too few vertices: 1, at least 2"),
         ("vertices 2", "1: too few edges: 0, at least 1"),
         ("vertices 8\nvertex a", "3: more than 8 vertices"),
-        (
-            "vertices 2\n0 -1-> 0",
-            "3: a query edge joins two different vertices",
-        ),
+        ("vertices 2\n0 -1-> 0", "3: a query edge joins two different vertices"),
     ] {
         assert_eq!(refused(&format!("[query]\n{body}\n")), message);
     }
@@ -254,10 +193,7 @@ fn limits_of_a_plan() {
         assert_eq!(refused(&plan(operators)), message);
     }
     assert!(parse(plan(&"scan 0\n".repeat(31)).as_bytes()).is_ok());
-    assert_eq!(
-        refused(&plan(&"scan 0\n".repeat(32))),
-        "38: more than 31 operators"
-    );
+    assert_eq!(refused(&plan(&"scan 0\n".repeat(32))), "38: more than 31 operators");
 }
 
 #[test]
@@ -266,35 +202,14 @@ fn warnings_of_what_the_engine_refuses() {
     let unconnected = "1: the query is not connected; the engine will refuse this with 11";
     assert_eq!(warned(text), unconnected);
     for (operators, message) in [
-        (
-            "extend 0",
-            "7: extend has no result to extend; the engine will refuse this with 15",
-        ),
-        (
-            "scan 0\njoin",
-            "8: join needs two results; the engine will refuse this with 15",
-        ),
-        (
-            "scan 0\nscan 1",
-            "6: 2 results are left over; the engine will refuse this with 15",
-        ),
-        (
-            "scan 0\n\nextend 1",
-            "9: vertex 1 is covered already; the engine will refuse this with 16",
-        ),
-        (
-            "scan 0\nscan 2\njoin",
-            "9: the two results share no vertex; the engine will refuse this with 17",
-        ),
-        (
-            "scan 0\nextend 2",
-            "6: vertex 3 is not covered; the engine will refuse this with 18",
-        ),
+        ("extend 0", "7: extend has no result to extend; the engine will refuse this with 15"),
+        ("scan 0\njoin", "8: join needs two results; the engine will refuse this with 15"),
+        ("scan 0\nscan 1", "6: 2 results are left over; the engine will refuse this with 15"),
+        ("scan 0\n\nextend 1", "9: vertex 1 is covered already; the engine will refuse this with 16"),
+        ("scan 0\nscan 2\njoin", "9: the two results share no vertex; the engine will refuse this with 17"),
+        ("scan 0\nextend 2", "6: vertex 3 is not covered; the engine will refuse this with 18"),
     ] {
         assert_eq!(warned(&plan(operators)), message);
     }
-    assert!(parse(plan("scan 1\nextend 0\nextend 3").as_bytes())
-        .unwrap()
-        .warning
-        .is_none());
+    assert!(parse(plan("scan 1\nextend 0\nextend 3").as_bytes()).unwrap().warning.is_none());
 }

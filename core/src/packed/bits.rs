@@ -12,10 +12,7 @@ pub struct BitWriter {
 impl BitWriter {
     /// A writer with room for so many bytes.
     pub fn with_capacity(bytes: usize) -> Self {
-        BitWriter {
-            bytes: Vec::with_capacity(bytes),
-            ..BitWriter::default()
-        }
+        BitWriter { bytes: Vec::with_capacity(bytes), ..BitWriter::default() }
     }
 
     /// Appends the `width` low bits of `value`, which has no others.
@@ -59,9 +56,7 @@ impl<'a> BitReader<'a> {
             return None;
         }
         let end = self.at + width as usize;
-        let held = self.bytes[self.at / 8..(end + 7) / 8]
-            .iter()
-            .fold(0u64, |held, &byte| held << 8 | u64::from(byte));
+        let held = self.bytes[self.at / 8..(end + 7) / 8].iter().fold(0u64, |held, &byte| held << 8 | u64::from(byte));
         let below = (8 - end % 8) % 8;
         self.at = end;
         Some((held >> below & ((1 << width) - 1)) as u32)

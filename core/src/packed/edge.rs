@@ -48,10 +48,7 @@ pub struct FileFault {
 
 impl FileFault {
     pub fn new(refusal: u8, reason: impl Into<String>) -> Self {
-        FileFault {
-            refusal,
-            reason: reason.into(),
-        }
+        FileFault { refusal, reason: reason.into() }
     }
 }
 

@@ -1,8 +1,8 @@
 //! The graph file: N vertices (16 bits), M edges (20 bits), then N vertices of label (16 bits) and
 //! inspection day (16), then M edges of source (16), label (8), target (16).
 
-use crate::packed::bits::{BitReader, BitWriter};
 use crate::day::Day;
+use crate::packed::bits::{BitReader, BitWriter};
 use crate::packed::edge::{Edge, FileFault, Limits};
 
 /// An item: its label, and the day of its last inspection, if it has one.
@@ -20,13 +20,8 @@ pub struct Graph {
 }
 
 impl Graph {
-    pub const LIMITS: Limits = Limits {
-        vertices: 0..=65_535,
-        edges: 0..=1_048_575,
-        pairs: 0..=0,
-        loops: true,
-        any_label: false,
-    };
+    pub const LIMITS: Limits =
+        Limits { vertices: 0..=65_535, edges: 0..=1_048_575, pairs: 0..=0, loops: true, any_label: false };
 
     pub fn new(vertices: Vec<Vertex>, mut edges: Vec<Edge>) -> Self {
         edges.sort_unstable_by_key(key);
@@ -50,8 +45,7 @@ impl Graph {
     /// The graph of a file, or the first fault in the engine's order.
     pub fn from_bytes(bytes: &[u8]) -> Result<Self, FileFault> {
         let mut file = BitReader::new(bytes);
-        let (vertices, edges) =
-            read(&mut file).ok_or_else(|| FileFault::new(1, "the file is too short"))?;
+        let (vertices, edges) = read(&mut file).ok_or_else(|| FileFault::new(1, "the file is too short"))?;
         if file.is_long() {
             return Err(FileFault::new(2, "the file is too long"));
         }
@@ -77,12 +71,8 @@ pub fn first_fault(edges: &[Edge], n: usize) -> Option<FileFault> {
             let reason = format!("edge from {} to {}: label 0", e.source, e.target);
             Some(FileFault::new(3, reason))
         }
-        _ if e.source.max(e.target) as usize >= n => {
-            Some(FileFault::new(3, format!("edge {e}: no such vertex")))
-        }
-        _ if i > 0 && key(&edges[i - 1]) >= key(e) => {
-            Some(FileFault::new(4, format!("edge {e} does not ascend")))
-        }
+        _ if e.source.max(e.target) as usize >= n => Some(FileFault::new(3, format!("edge {e}: no such vertex"))),
+        _ if i > 0 && key(&edges[i - 1]) >= key(e) => Some(FileFault::new(4, format!("edge {e} does not ascend"))),
         _ => None,
     };
     edges.iter().enumerate().find_map(|(i, e)| fault(i, e))
@@ -97,10 +87,7 @@ fn read(file: &mut BitReader) -> Option<(Vec<Vertex>, Vec<Edge>)> {
 }
 
 fn vertex(file: &mut BitReader) -> Option<Vertex> {
-    Some(Vertex {
-        label: file.take(16)?,
-        day: Day(file.take(16)?),
-    })
+    Some(Vertex { label: file.take(16)?, day: Day(file.take(16)?) })
 }
 
 pub fn put_edge(out: &mut BitWriter, e: &Edge) {
@@ -110,9 +97,5 @@ pub fn put_edge(out: &mut BitWriter, e: &Edge) {
 }
 
 pub fn take_edge(file: &mut BitReader) -> Option<Edge> {
-    Some(Edge {
-        source: file.take(16)?,
-        label: file.take(8)?,
-        target: file.take(16)?,
-    })
+    Some(Edge { source: file.take(16)?, label: file.take(8)?, target: file.take(16)? })
 }

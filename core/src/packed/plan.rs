@@ -52,9 +52,7 @@ impl Plan {
         if count == 0 {
             return Err(FileFault::new(14, "no operator"));
         }
-        let operators = (0..count)
-            .map(|_| operator(&mut file, query))
-            .collect::<Result<_, _>>()?;
+        let operators = (0..count).map(|_| operator(&mut file, query)).collect::<Result<_, _>>()?;
         if file.is_long() {
             return Err(FileFault::new(13, "the file is too long"));
         }
@@ -66,8 +64,7 @@ impl Plan {
 }
 
 fn take(file: &mut BitReader, width: u32) -> Result<u32, FileFault> {
-    file.take(width)
-        .ok_or_else(|| FileFault::new(12, "the file is too short"))
+    file.take(width).ok_or_else(|| FileFault::new(12, "the file is too short"))
 }
 
 fn operator(file: &mut BitReader, query: &Query) -> Result<Operator, FileFault> {

@@ -2,8 +2,8 @@
 //! day (16) and last day (16), then m edges of from (3), to (3), label (8), then a pair count (4)
 //! and pairs of low (3), high (3).
 
-use crate::packed::bits::{BitReader, BitWriter};
 use crate::day::{Day, Days};
+use crate::packed::bits::{BitReader, BitWriter};
 use crate::packed::edge::{Edge, FileFault, Limits};
 use crate::packed::pair::{first_fault, Pair};
 
@@ -25,22 +25,12 @@ pub struct Query {
 }
 
 impl Query {
-    pub const LIMITS: Limits = Limits {
-        vertices: 2..=8,
-        edges: 1..=24,
-        pairs: 0..=15,
-        loops: false,
-        any_label: true,
-    };
+    pub const LIMITS: Limits = Limits { vertices: 2..=8, edges: 1..=24, pairs: 0..=15, loops: false, any_label: true };
 
     pub fn new(vertices: Vec<Vertex>, mut edges: Vec<Edge>, mut pairs: Vec<Pair>) -> Self {
         edges.sort_by_key(key);
         pairs.sort();
-        Query {
-            vertices,
-            edges,
-            pairs,
-        }
+        Query { vertices, edges, pairs }
     }
 
     pub fn to_bytes(&self) -> Vec<u8> {
@@ -79,11 +69,7 @@ impl Query {
             return Err(FileFault::new(8, format!("{m} edges")));
         }
         let query = read(&mut file, n, m).ok_or_else(too_short)?;
-        let Query {
-            vertices,
-            edges,
-            pairs,
-        } = &query;
+        let Query { vertices, edges, pairs } = &query;
         if file.is_long() {
             return Err(FileFault::new(7, "the file is too long"));
         }
@@ -123,11 +109,7 @@ fn read(file: &mut BitReader, n: usize, m: usize) -> Option<Query> {
     let edges = (0..m).map(|_| edge(file)).collect::<Option<_>>()?;
     let count = file.take(4)?;
     let pairs = (0..count).map(|_| pair(file)).collect::<Option<_>>()?;
-    Some(Query {
-        vertices,
-        edges,
-        pairs,
-    })
+    Some(Query { vertices, edges, pairs })
 }
 
 fn vertex(file: &mut BitReader) -> Option<Vertex> {
@@ -142,11 +124,7 @@ fn edge(file: &mut BitReader) -> Option<Edge> {
     let source = file.take(3)?;
     let target = file.take(3)?;
     let label = file.take(8)?;
-    Some(Edge {
-        source,
-        label,
-        target,
-    })
+    Some(Edge { source, label, target })
 }
 
 fn pair(file: &mut BitReader) -> Option<Pair> {

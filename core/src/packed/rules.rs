@@ -57,11 +57,7 @@ pub fn broken_rule(query: &Query, plan: &Plan, spelling: &Spelling) -> Option<Br
     let mut pile = Vec::new();
     for (i, &operator) in plan.operators.iter().enumerate() {
         if let Err((refusal, reason)) = step(query, operator, &mut pile, spelling) {
-            return Some(Broken {
-                operator: Some(i),
-                refusal,
-                reason,
-            });
+            return Some(Broken { operator: Some(i), refusal, reason });
         }
     }
     let (refusal, reason) = match pile[..] {
@@ -72,11 +68,7 @@ pub fn broken_rule(query: &Query, plan: &Plan, spelling: &Spelling) -> Option<Br
         }
         _ => (15, format!("{} results are left over", pile.len())),
     };
-    Some(Broken {
-        operator: None,
-        refusal,
-        reason,
-    })
+    Some(Broken { operator: None, refusal, reason })
 }
 
 type Step = Result<(), (u8, String)>;
@@ -109,10 +101,7 @@ fn extendable(query: &Query, v: u32, covered: VertexSet, spelling: &Spelling) ->
     }
     let joins = |e: &Edge| ends(e) & bit(v) != 0 && ends(e) & covered != 0;
     if !query.edges.iter().any(joins) {
-        return Err((
-            16,
-            format!("no query edge joins vertex {} to a covered one", (spelling.vertex)(v)),
-        ));
+        return Err((16, format!("no query edge joins vertex {} to a covered one", (spelling.vertex)(v))));
     }
     Ok(())
 }
@@ -139,15 +128,8 @@ mod tests {
     use Operator::{Extend, Join, Scan};
 
     fn query(n: usize, pairs: &[(u32, u32)]) -> Query {
-        let edges = pairs.iter().map(|&(source, target)| Edge {
-            source,
-            label: 1,
-            target,
-        });
-        let vertex = Vertex {
-            label: 0,
-            days: Days::ALL,
-        };
+        let edges = pairs.iter().map(|&(source, target)| Edge { source, label: 1, target });
+        let vertex = Vertex { label: 0, days: Days::ALL };
         Query::new(vec![vertex; n], edges.collect(), Vec::new())
     }
 
@@ -157,9 +139,7 @@ mod tests {
 
     /// The operator that breaks a rule, and the refusal.
     fn first(query: &Query, operators: &[Operator]) -> Option<(Option<usize>, u8)> {
-        let plan = Plan {
-            operators: operators.to_vec(),
-        };
+        let plan = Plan { operators: operators.to_vec() };
         let spelling = Spelling { vertex: &|v| v.to_string(), edge: &|e| e.to_string() };
         broken_rule(query, &plan, &spelling).map(|b| (b.operator, b.refusal))
     }
@@ -168,10 +148,7 @@ mod tests {
     fn connected_ignoring_direction() {
         assert!(is_connected(&diamond()));
         assert!(is_connected(&query(4, &[(1, 0), (2, 3), (3, 1)])));
-        assert!(is_connected(&query(
-            8,
-            &[(7, 6), (6, 5), (5, 4), (4, 3), (3, 2), (2, 1), (1, 0)]
-        )));
+        assert!(is_connected(&query(8, &[(7, 6), (6, 5), (5, 4), (4, 3), (3, 2), (2, 1), (1, 0)])));
         assert!(!is_connected(&query(4, &[(0, 1), (2, 3)])));
         assert!(!is_connected(&query(3, &[(1, 2)])));
     }
@@ -179,14 +156,8 @@ mod tests {
     #[test]
     fn plans_that_keep_the_rules() {
         assert_eq!(first(&diamond(), &[Scan(2), Extend(0), Extend(3)]), None);
-        assert_eq!(
-            first(&diamond(), &[Scan(2), Extend(0), Scan(2), Extend(3), Join]),
-            None
-        );
-        assert_eq!(
-            first(&query(3, &[(0, 1), (1, 2)]), &[Scan(0), Scan(1), Join]),
-            None
-        );
+        assert_eq!(first(&diamond(), &[Scan(2), Extend(0), Scan(2), Extend(3), Join]), None);
+        assert_eq!(first(&query(3, &[(0, 1), (1, 2)]), &[Scan(0), Scan(1), Join]), None);
     }
 
     #[test]
@@ -197,10 +168,7 @@ mod tests {
         assert_eq!(first(&q, &[Scan(0), Join]), at(1, 15));
         assert_eq!(first(&q, &[Scan(0), Scan(1)]), Some((None, 15)));
         assert_eq!(first(&q, &[Scan(0), Extend(1)]), at(1, 16));
-        assert_eq!(
-            first(&query(4, &[(0, 1), (1, 2), (2, 3)]), &[Scan(0), Extend(3)]),
-            at(1, 16)
-        );
+        assert_eq!(first(&query(4, &[(0, 1), (1, 2), (2, 3)]), &[Scan(0), Extend(3)]), at(1, 16));
         assert_eq!(first(&q, &[Scan(0), Scan(4), Join]), at(2, 17));
         assert_eq!(first(&q, &[Scan(0), Extend(2), Scan(2), Join]), at(3, 17));
         assert_eq!(first(&q, &[Scan(0), Scan(1), Join]), at(2, 17));

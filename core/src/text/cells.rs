@@ -12,7 +12,11 @@ pub fn broken_quote(source: &str, begin: usize, separator: u8) -> Option<(usize,
         if bytes[at] != b'"' {
             while at < bytes.len() && bytes[at] != separator && bytes[at] != b'\n' {
                 if bytes[at] == b'"' {
-                    return Some((at, at + 1, "a cell with a quotation mark stands in quotes, and the mark is written twice"));
+                    return Some((
+                        at,
+                        at + 1,
+                        "a cell with a quotation mark stands in quotes, and the mark is written twice",
+                    ));
                 }
                 at += 1;
             }

@@ -83,10 +83,10 @@ impl Draft<'_> {
         }
         self.check_digit_names();
         let edges = self.resolve_edges();
-        let vertices = self.items.iter().map(|item| Vertex {
-            label: item.kind.map_or(0, |kind| self.item_kinds.number(kind)),
-            day: item.day,
-        });
+        let vertices = self
+            .items
+            .iter()
+            .map(|item| Vertex { label: item.kind.map_or(0, |kind| self.item_kinds.number(kind)), day: item.day });
         Some(Hang {
             graph: Graph { vertices: vertices.collect(), edges },
             names: std::mem::take(&mut self.names),
@@ -104,7 +104,9 @@ impl Draft<'_> {
         let mut last: Option<(&str, u32)> = None;
         for (i, draft) in drafts.iter().enumerate() {
             let source = match (draft.source, last) {
-                (End::Word(word), Some((raw, item))) if word.form == Form::Bare && word.raw(self.source(draft.text)) == raw => {
+                (End::Word(word), Some((raw, item)))
+                    if word.form == Form::Bare && word.raw(self.source(draft.text)) == raw =>
+                {
                     Some(item)
                 }
                 (end, _) => self.end(draft, end),
@@ -240,11 +242,12 @@ impl Draft<'_> {
     pub fn no_kind(&mut self, document: &Document, name: &str, at: Place, is_item: bool) {
         let kinds = if is_item { &document.item_kinds } else { &document.connection_kinds };
         let what = if is_item { "item" } else { "connection" };
-        let reason = match (kinds.is_declared(), document.hang.is_some() || self.graph_head.is_some() || self.from_tables) {
-            (true, _) => format!("no kind of {what} '{name}' is declared in [kinds]"),
-            (false, true) => format!("no {what} of kind '{name}' is in the hang"),
-            (false, false) => format!("no kind of {what} '{name}' is known: there is no hang, and no [kinds]"),
-        };
+        let reason =
+            match (kinds.is_declared(), document.hang.is_some() || self.graph_head.is_some() || self.from_tables) {
+                (true, _) => format!("no kind of {what} '{name}' is declared in [kinds]"),
+                (false, true) => format!("no {what} of kind '{name}' is in the hang"),
+                (false, false) => format!("no kind of {what} '{name}' is known: there is no hang, and no [kinds]"),
+            };
         self.unknown(at, reason, name, kinds.iter().map(|(name, _)| name).chain(Some(ANY)));
     }
 
@@ -269,5 +272,6 @@ pub fn refused(at: Place, refusal: u8, reason: &str) -> Fault {
     Fault::warning(at, format!("{reason}; the engine will refuse this with {refusal}"))
 }
 
-const EXPECTED_CHANGE: &str = "expected '+ A -L-> B', an edge to add, or '- A -L-> B', one to take away, with blanks around \
+const EXPECTED_CHANGE: &str =
+    "expected '+ A -L-> B', an edge to add, or '- A -L-> B', one to take away, with blanks around \
                                the arrow";

@@ -211,7 +211,9 @@ pub fn split_kind<'w>(draft: &mut Draft, text: u32, rest: &'w [Word]) -> Option<
     match *rest {
         [] => Some((None, rest)),
         [label, kind, ref more @ ..] if label.is(source, "label") && kind.is_name() => Some((Some(kind), more)),
-        [word, ..] if word.form == Form::Bare && ["day", "inspected", "note"].contains(&word.raw(source)) => Some((None, rest)),
+        [word, ..] if word.form == Form::Bare && ["day", "inspected", "note"].contains(&word.raw(source)) => {
+            Some((None, rest))
+        }
         [word, ..] if word.form == Form::Bare && is_number(word.raw(source)) => {
             let fault = Fault::error(place(text, word), "a number by itself is no kind");
             draft.faults.push(fault.help(format!("for the kind of this number write 'label {}'", word.raw(source))));
@@ -278,5 +280,12 @@ fn edge(draft: &mut Draft, text: u32, from: Word, arrow: Word, to: Word) {
     };
     // A fault was told; the ends are looked at all the same.
     let kind = kind.unwrap_or(Written::Number(1));
-    draft.edges.push(DraftEdge { text, source: End::Word(from), kind, target: End::Word(to), start: from.start, end: to.end });
+    draft.edges.push(DraftEdge {
+        text,
+        source: End::Word(from),
+        kind,
+        target: End::Word(to),
+        start: from.start,
+        end: to.end,
+    });
 }

@@ -55,7 +55,8 @@ impl Draft<'_> {
             errors: self.faults.errors(),
         };
         // Vertices first, so that a connection may stand above them.
-        let rest: Vec<&Line> = block.lines.iter().filter(|line| !self.vertex_line(document, &mut sketch, line)).collect();
+        let rest: Vec<&Line> =
+            block.lines.iter().filter(|line| !self.vertex_line(document, &mut sketch, line)).collect();
         for line in rest {
             self.other_line(document, &mut sketch, line);
         }
@@ -108,7 +109,15 @@ impl Draft<'_> {
         self.vertices(document, sketch, Some(&spelled), 1, rest, at);
     }
 
-    fn vertices(&mut self, document: &Document, sketch: &mut Sketch, name: Option<&str>, count: u32, rest: &[Word], at: Place) {
+    fn vertices(
+        &mut self,
+        document: &Document,
+        sketch: &mut Sketch,
+        name: Option<&str>,
+        count: u32,
+        rest: &[Word],
+        at: Place,
+    ) {
         let described = self.describe_vertex(document, sketch.block.text, rest);
         let (vertex, numbered) = described.unwrap_or((Vertex { label: 0, days: Days::ALL }, false));
         let first = sketch.pattern.query.vertices.len();
@@ -211,7 +220,8 @@ impl Draft<'_> {
             Ok(vertex) => Some(vertex),
             Err(NotFound::Both) => {
                 let reason = format!("'{spelled}' is the name of one vertex and the number of another");
-                self.faults.push(Fault::error(at, reason).help(format!("write \"{spelled}\" for the one of that name")));
+                self.faults
+                    .push(Fault::error(at, reason).help(format!("write \"{spelled}\" for the one of that name")));
                 None
             }
             Err(NotFound::Unknown) => {

@@ -57,13 +57,21 @@ impl Draft<'_> {
         let is_above = |q: &Block| q.text == block.text && q.head.start < block.head.start;
         let above = queries.iter().rposition(is_above);
         if above.is_none() && queries.len() > 1 {
-            self.error(block.head, "which query is this plan for? Write it below its [query], or with its name: [plan NAME]");
+            self.error(
+                block.head,
+                "which query is this plan for? Write it below its [query], or with its name: [plan NAME]",
+            );
             return None;
         }
         above.or(Some(0))
     }
 
-    fn plan(&mut self, document: &Document, block: &Block, pattern: &Pattern) -> Option<(Plan, Vec<crate::text::fault::Place>)> {
+    fn plan(
+        &mut self,
+        document: &Document,
+        block: &Block,
+        pattern: &Pattern,
+    ) -> Option<(Plan, Vec<crate::text::fault::Place>)> {
         let mut operators = Vec::new();
         let mut places = Vec::new();
         let before = self.faults.errors();
@@ -96,7 +104,9 @@ impl Draft<'_> {
                 let read = number("query edge", &index.text(source), 0..=last);
                 read.map_err(|reason| self.error(at, reason)).ok().map(Operator::Scan)
             }
-            [scan, from, arrow, to] if scan.is(source, "scan") && arrow.is_arrow() && from.is_name() && to.is_name() => {
+            [scan, from, arrow, to]
+                if scan.is(source, "scan") && arrow.is_arrow() && from.is_name() && to.is_name() =>
+            {
                 let source_end = self.find_vertex(&pattern.names, block.text, from);
                 let label = self.find_label(document, block.text, arrow, true);
                 let target = self.find_vertex(&pattern.names, block.text, to);

@@ -25,7 +25,8 @@ pub struct Table {
 /// A table of connections that is read once all items are known.
 pub struct Connections(Table);
 
-const EXPECTED: &str = "expected a head with 'name' and 'kind', a table of items, or with 'from', 'kind' and 'to', a table of \
+const EXPECTED: &str =
+    "expected a head with 'name' and 'kind', a table of items, or with 'from', 'kind' and 'to', a table of \
                         connections";
 
 /// Reads a table of items; another is handed back if it is of connections.
@@ -65,7 +66,8 @@ impl Table {
         let mut record = ByteRecord::new();
         let is_read = table.reader(source).read_byte_record(&mut record).unwrap_or(false);
         table.head = record.iter().map(|cell| plain(&String::from_utf8_lossy(cell))).collect();
-        let repeated = (1..table.head.len()).find(|&i| !table.head[i].is_empty() && table.head[..i].contains(&table.head[i]));
+        let repeated =
+            (1..table.head.len()).find(|&i| !table.head[i].is_empty() && table.head[..i].contains(&table.head[i]));
         let place = table.head_place(draft);
         if let Some(i) = repeated {
             draft.error(place, format!("two columns are named '{}'", table.head[i]));
@@ -224,7 +226,9 @@ fn day_cell(draft: &mut Draft, row: &Row, column: usize) -> Day {
     let read = if is_number(cell) { Err(format!("'{cell}' is no date")) } else { Day::read(cell) };
     read.unwrap_or_else(|reason| {
         let place = row.place(draft, column);
-        draft.faults.push(Fault::error(place, reason).help("a day stands in a table as 2026-11-15; format the column so"));
+        draft
+            .faults
+            .push(Fault::error(place, reason).help("a day stands in a table as 2026-11-15; format the column so"));
         Day::NONE
     })
 }

@@ -31,9 +31,7 @@ impl Word {
     pub fn text<'t>(&self, source: &'t str) -> Cow<'t, str> {
         let raw = self.raw(source);
         match self.form {
-            Form::Quoted | Form::QuotedArrow if raw.contains('"') => {
-                Cow::Owned(raw.replace("\"\"", "\""))
-            }
+            Form::Quoted | Form::QuotedArrow if raw.contains('"') => Cow::Owned(raw.replace("\"\"", "\"")),
             _ => Cow::Borrowed(raw),
         }
     }
@@ -193,7 +191,11 @@ fn after(source: &str, start: usize, at: usize, end: usize) -> Result<usize, Bro
         return Ok(at);
     }
     let next = source[at..end].chars().next().map_or(1, char::len_utf8);
-    Err((start as u32, (at + next) as u32, "a blank stands after what is in quotes; a quotation mark within is written twice"))
+    Err((
+        start as u32,
+        (at + next) as u32,
+        "a blank stands after what is in quotes; a quotation mark within is written twice",
+    ))
 }
 
 #[inline]
@@ -266,8 +268,13 @@ mod tests {
         use Form::*;
         let line = "m1: \"Motor 3 (spare)\": -carries-> -\"a \"\"b\"\"\"-> libstdc++6#x";
         let expected = [
-            (Bare, "m1"), (Colon, ":"), (Quoted, "Motor 3 (spare)"), (Colon, ":"), (Arrow, "carries"),
-            (QuotedArrow, "a \"b\""), (Bare, "libstdc++6"),
+            (Bare, "m1"),
+            (Colon, ":"),
+            (Quoted, "Motor 3 (spare)"),
+            (Colon, ":"),
+            (Arrow, "carries"),
+            (QuotedArrow, "a \"b\""),
+            (Bare, "libstdc++6"),
         ];
         let expected: Vec<_> = expected.iter().map(|&(f, t)| (f, t.to_string())).collect();
         assert_eq!(words(line), expected);
@@ -276,7 +283,8 @@ mod tests {
 
     #[test]
     fn what_is_quoted_comes_back() {
-        for name in ["a b", "-x", "a->b", "x:", "a\"b", "\"", "vertex", "0ad", "a:b", "x#y", "<", "Träger-Süd", "any"] {
+        for name in ["a b", "-x", "a->b", "x:", "a\"b", "\"", "vertex", "0ad", "a:b", "x#y", "<", "Träger-Süd", "any"]
+        {
             let line = quote(name).into_owned();
             let mut read = Vec::new();
             split(&line, 0, line.len(), &mut read).unwrap();
