@@ -61,7 +61,7 @@ fn folder(path: &Path, sources: &mut Vec<Source>) -> Result<()> {
     }
     let entries = fs::read_dir(path).map_err(|e| Stop::Because(format!("{}: {}", path.display(), reason(&e))))?;
     let mut files: Vec<PathBuf> = entries.filter_map(|e| e.ok()).map(|e| e.path()).collect();
-    files.retain(|f| f.is_file() && f.extension().map_or(false, |e| ["csv", "tsv", "txt"].iter().any(|x| e == *x)));
+    files.retain(|f| f.is_file() && f.extension().is_some_and(|e| ["csv", "tsv", "txt"].iter().any(|x| e == *x)));
     files.sort();
     if files.is_empty() {
         let reason = format!("{}: no hang.txt, no tables and no packed files in this folder", path.display());

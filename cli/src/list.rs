@@ -31,7 +31,7 @@ pub fn table<'a>(
         }
     }
     let all = widths.iter().sum::<usize>() + GAP.len() * widths.len().saturating_sub(1);
-    if limit.map_or(false, |limit| all > limit) {
+    if limit.is_some_and(|limit| all > limit) {
         return stacked(out, head, rows);
     }
     line(out, &widths, head.iter().map(|name| Cow::Borrowed(name.as_str())))?;

@@ -31,12 +31,9 @@ pub fn pack(arguments: &Pack) -> Result<u8> {
             return Err(Stop::Because(reason));
         }
     };
-    for fault in
-        [&document.changes_fault, &pattern.and_then(|p| p.fault.clone()), &pattern.and_then(|p| p.plan_fault.clone())]
-    {
-        if let Some(fault) = fault {
-            faults::show_each(&read.reading.texts, &[fault]);
-        }
+    let of_pattern = pattern.and_then(|p| p.fault.as_ref().or(p.plan_fault.as_ref()));
+    for fault in document.changes_fault.iter().chain(of_pattern) {
+        faults::show_each(&read.reading.texts, &[fault]);
     }
     let beside = arguments.file.parent().unwrap_or(Path::new(""));
     let folder = arguments.folder.as_deref().unwrap_or(beside);

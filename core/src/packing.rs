@@ -72,14 +72,13 @@ impl Packed {
 
     /// A document of what the files hold, without names.
     pub fn into_document(self) -> Document {
-        let mut document = Document::default();
-        document.hang = self.graph.map(|graph| {
+        let hang = self.graph.map(|graph| {
             let mut names = Names::default();
             names.add_unnamed(graph.vertices.len());
             Hang { graph, names, numbered_days: Vec::new(), notes: Notes::default(), from_tables: false }
         });
         let plan = self.plan;
-        document.patterns.extend(self.query.map(|query| {
+        let pattern = self.query.map(|query| {
             let mut names = Names::default();
             names.add_unnamed(query.vertices.len());
             Pattern {
@@ -94,9 +93,8 @@ impl Packed {
                 fault: None,
                 plan_fault: None,
             }
-        }));
-        document.changes = self.changes;
-        document
+        });
+        Document { hang, patterns: pattern.into_iter().collect(), changes: self.changes, ..Document::default() }
     }
 
     /// The text form, with names where there is a table of them; or what is wrong with that.

@@ -43,6 +43,6 @@ fn counts(labels: impl Iterator<Item = u32>, name: impl Fn(u32) -> String) -> Ve
     }
     let some = (0..).zip(by_label).filter(|&(_, count)| count > 0);
     let mut counts: Vec<(String, usize)> = some.map(|(label, count)| (name(label), count)).collect();
-    counts.sort_by(|a, b| b.1.cmp(&a.1));
+    counts.sort_by_key(|(_, count)| std::cmp::Reverse(*count));
     counts
 }

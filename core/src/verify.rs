@@ -85,7 +85,8 @@ impl<'d> Rows<'d> {
         }
         for e in &self.query.edges {
             let (a, b) = (e.source as usize, e.target as usize);
-            if !(is_same(a) && is_same(b)) && !self.has_edge(row[a], e.label, row[b]) {
+            let is_tested = is_same(a) && is_same(b);
+            if !is_tested && !self.has_edge(row[a], e.label, row[b]) {
                 return Err(format!("has not the connection {}", self.document.pattern_edge(self.pattern, e)));
             }
         }

@@ -89,7 +89,7 @@ impl Draft<'_> {
         if block.lines.is_empty() {
             self.error(block.head, "too few operators: 0, at least 1");
         }
-        (self.faults.errors() == before).then(|| (Plan { operators }, places))
+        (self.faults.errors() == before).then_some((Plan { operators }, places))
     }
 
     fn operator(&mut self, document: &Document, block: &Block, pattern: &Pattern, line: &Line) -> Option<Operator> {

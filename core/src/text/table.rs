@@ -85,7 +85,7 @@ impl Table {
             .delimiter(self.separator)
             .has_headers(false)
             .flexible(true)
-            .from_reader(source[self.begin..].as_bytes())
+            .from_reader(&source.as_bytes()[self.begin..])
     }
 
     fn column(&self, name: &str) -> Option<usize> {
