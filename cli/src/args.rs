@@ -110,6 +110,9 @@ pub struct Find {
     /// The number of places alone
     #[arg(long, group = "form")]
     pub count: bool,
+    /// Pages of 60 lines and 80 columns, by item numbers, as the engine prints them
+    #[arg(long, group = "form")]
+    pub sheet: bool,
     /// Write here, whole or not at all
     #[arg(long, short, value_name = "FILE")]
     pub output: Option<PathBuf>,

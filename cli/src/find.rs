@@ -80,6 +80,7 @@ fn write(output: &mut Output, arguments: &Find, loaded: &Loaded, all: &[Found]) 
             _ if arguments.count && all.len() == 1 => writeln!(output, "{}", found.places())?,
             _ if arguments.count => writeln!(output, "{}: {}", found.pattern.title(), found.places())?,
             _ if arguments.csv => csv(output, loaded, found)?,
+            _ if arguments.sheet => sheet(output, found)?,
             _ => {
                 if i > 0 {
                     writeln!(output)?;
@@ -90,6 +91,19 @@ fn write(output: &mut Output, arguments: &Find, loaded: &Loaded, all: &[Found]) 
         }
     }
     Ok(())
+}
+
+/// Writes the pages of a list; each has its number and the page count.
+fn sheet(output: &mut Output, found: &Found) -> Result<()> {
+    let mut page = 1;
+    loop {
+        let (bytes, pages) = found.page(&Library, page)?;
+        output.write_all(&bytes)?;
+        if page == pages {
+            return Ok(());
+        }
+        page += 1;
+    }
 }
 
 fn csv(output: &mut Output, loaded: &Loaded, found: &Found) -> Result<()> {

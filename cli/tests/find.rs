@@ -310,3 +310,23 @@ fn standard_input_and_folders() {
     let (status, out, _) = run(&dir, &["find", "packed"]);
     assert!(status == 0 && out.contains("back truss  p2   m3"), "{out}");
 }
+
+/// The pages of request 13: numbers, 59 rows a page, the page and the page count first.
+#[test]
+fn sheets() {
+    let dir = folder("sheet");
+    long(&dir);
+    let (status, out, _) = run(&dir, &["find", "long.txt", "--sheet"]);
+    assert_eq!(status, 0);
+    let pages = 20_000_usize.div_ceil(59);
+    assert_eq!(out.len(), 4_860 * pages);
+    let numbers = |line: &str| -> Vec<usize> { line.split_whitespace().map(|n| n.parse().unwrap()).collect() };
+    let mut rows = Vec::new();
+    for (i, page) in out.as_bytes().chunks(4_860).enumerate() {
+        let lines: Vec<&str> = std::str::from_utf8(page).unwrap().lines().collect();
+        assert_eq!(numbers(lines[0]), [i + 1, pages]);
+        rows.extend(lines[1..].iter().map(|line| numbers(line)).filter(|row| !row.is_empty()));
+    }
+    let expected: Vec<Vec<usize>> = (0..200).flat_map(|i| (200..300).map(move |j| vec![i, j])).collect();
+    assert_eq!(rows, expected);
+}

@@ -44,7 +44,16 @@ pub trait Engine: Sync {
         list: &mut [u32],
         records: &mut [Record],
     ) -> Result<Answer, Refusal>;
+
+    /// One page of a list: how many there are. A shell that prints no pages leaves it.
+    fn page(&self, list: &[u32], width: usize, rows: usize, page: u64, bytes: &mut [u8]) -> Result<u64, Refusal> {
+        let _ = (list, width, rows, page, bytes);
+        Err(Refusal(35))
+    }
 }
+
+/// The bytes of a page: 60 lines of 80 columns, each with a line feed.
+pub const PAGE_BYTES: usize = 4_860;
 
 /// The most operators that a plan has.
 pub const MAX_OPERATORS: usize = 31;

@@ -3,7 +3,7 @@
 use std::borrow::Cow;
 
 use crate::document::{Document, Hang, Pattern};
-use crate::engine::{run_growing, store_words, Engine, Record, Refusal, MAX_DRAWN_BYTES};
+use crate::engine::{run_growing, store_words, Engine, Record, Refusal, MAX_DRAWN_BYTES, PAGE_BYTES};
 use crate::failure::Failure;
 use crate::packed::edge::Edge;
 use crate::packed::graph::Graph;
@@ -80,6 +80,14 @@ impl Found<'_> {
     /// How many rows there are.
     pub fn places(&self) -> usize {
         self.rows.len() / self.width()
+    }
+
+    /// A page of the rows, as they are printed by numbers, and how many pages there are.
+    pub fn page(&self, engine: &dyn Engine, page: u64) -> Result<(Vec<u8>, u64), Failure> {
+        let mut bytes = vec![0; PAGE_BYTES];
+        let filled = engine.page(&self.rows, self.width(), self.places(), page, &mut bytes);
+        let pages = filled.map_err(|refusal| Failure::Refused { what: "a page", refusal })?;
+        Ok((bytes, pages))
     }
 
     pub fn rows(&self) -> std::slice::ChunksExact<'_, u32> {

@@ -13,6 +13,9 @@ pub const MAX_OPERATORS: usize = 31;
 /// A drawn plan has no more bytes than this.
 pub const MAX_DRAWN_BYTES: usize = 6;
 
+/// The bytes of a page: 60 lines of 80 columns, each with a line feed.
+pub const PAGE_BYTES: usize = 4860;
+
 /// Whether an extend reuses the vertices that it found for the row just before, where it may. The rows are the same, and the
 /// cost with it on is no higher; the extend needs as many words of scratch more as the longest set of vertices it found has.
 #[derive(Clone, Copy, Debug, PartialEq, Eq, Hash)]
@@ -168,4 +171,29 @@ pub fn run(
     };
     accepted(number)?;
     Ok(Run { rows: size(rows), cost, build, probe })
+}
+
+/// Fills one page of the rows of a list, `n` words a row, as text, in bytes that the caller lends: [`PAGE_BYTES`] or more. Answers the
+/// page count. The first page is 1.
+///
+/// Line 1 holds the page number and the page count, lines 2 to 60 a row each, 59 rows a page in list order, every number right-aligned
+/// in 8 columns. Every word of the rows is looked at, whatever the page. Refused, the bytes are untouched; filled, those past the page
+/// are.
+pub fn page_into(list: &[u32], n: usize, rows: usize, page: usize, bytes: &mut [u8]) -> Result<usize, Refusal> {
+    let mut pages = 0;
+    // SAFETY: each pointer and length are those of one slice, and the number is a local. The bytes are borrowed alone.
+    let number = unsafe {
+        sys::rizhavaan_page(
+            list.as_ptr(),
+            list.len(),
+            n as u64,
+            rows as u64,
+            page as u64,
+            bytes.as_mut_ptr(),
+            bytes.len(),
+            &mut pages,
+        )
+    };
+    accepted(number)?;
+    Ok(size(pages))
 }

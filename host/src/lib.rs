@@ -1,4 +1,4 @@
-//! Subgraph matching by a proved engine: load a packed graph or change a loaded one, check a plan or draw one, run it.
+//! Subgraph matching by a proved engine: load a packed graph or change a loaded one, check a plan or draw one, run it, print its rows.
 //!
 //! The engine is written in Rattle and proved to meet its contracts: after an accepted run the list holds every match of the
 //! query once, and nothing else. A match gives different query vertices different data vertices, each with the label and with one of
@@ -33,6 +33,11 @@
 //!     println!("{}: {} rows, cost {}", work.operator, work.rows, work.cost);
 //! }
 //!
+//! // The matches on pages of text: the first line says page 1 of 1, a match follows on a line of its own.
+//! let page = matches.pages().next().unwrap();
+//! assert!(page.starts_with(b"       1       1  "));
+//! assert!(page[81..].starts_with(b"       0       1       2  "));
+//!
 //! // Without a plan: one is drawn, here the same.
 //! assert_eq!(store.draw_plan(&query)?, plan);
 //! assert_eq!(store.run_drawn(&query, Cache::On, &mut buffers)?.len(), 2);
@@ -60,14 +65,16 @@ compile_error!("the static library is for x86-64 Linux");
 mod engine;
 mod operator;
 mod refusal;
+mod sheet;
 mod store;
 pub mod sys;
 
 pub use engine::{
-    apply_changes_into, check_plan, draw_plan_into, load_into, run, Cache, Loaded, Run, MAX_DRAWN_BYTES, MAX_OPERATORS,
-    MAX_WORDS,
+    apply_changes_into, check_plan, draw_plan_into, load_into, page_into, run, Cache, Loaded, Run, MAX_DRAWN_BYTES,
+    MAX_OPERATORS, MAX_WORDS, PAGE_BYTES,
 };
 pub use operator::{operators, Operator, Work};
 pub use refusal::Refusal;
+pub use sheet::Pages;
 pub use store::{Buffers, Matches, Store};
 pub use sys::Record;

@@ -91,4 +91,19 @@ extern "C" {
         build: *mut u64,
         probe: *mut u64,
     ) -> u32;
+
+    /// Page. See `rizhavaan.h`.
+    ///
+    /// # Safety
+    /// As for [`rizhavaan_load`].
+    pub fn rizhavaan_page(
+        list: *const u32,
+        list_len: usize,
+        n: u64,
+        rows: u64,
+        page: u64,
+        bytes: *mut u8,
+        bytes_len: usize,
+        pages: *mut u64,
+    ) -> u32;
 }

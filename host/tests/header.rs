@@ -1,5 +1,5 @@
 //! The header for C has the wrapper's numbers: the refusals, each by its name, and the limits.
-use rizhavaan::{Refusal, MAX_DRAWN_BYTES, MAX_OPERATORS, MAX_WORDS};
+use rizhavaan::{Refusal, MAX_DRAWN_BYTES, MAX_OPERATORS, MAX_WORDS, PAGE_BYTES};
 use std::collections::BTreeMap;
 
 const HEADER: &str = include_str!("../../crates/rizhavaan/include/rizhavaan.h");
@@ -34,7 +34,12 @@ fn every_refusal() {
 
 #[test]
 fn every_limit() {
-    let limits = [("MAX_OPERATORS", MAX_OPERATORS), ("MAX_DRAWN_BYTES", MAX_DRAWN_BYTES), ("MAX_WORDS", MAX_WORDS)];
+    let limits = [
+        ("MAX_OPERATORS", MAX_OPERATORS),
+        ("MAX_DRAWN_BYTES", MAX_DRAWN_BYTES),
+        ("MAX_WORDS", MAX_WORDS),
+        ("PAGE_BYTES", PAGE_BYTES),
+    ];
     for (name, number) in limits {
         let line = format!("#define RIZHAVAAN_{name} {number}");
         assert!(HEADER.lines().any(|found| found == line), "{line}");

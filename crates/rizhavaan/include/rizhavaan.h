@@ -1,4 +1,4 @@
-/* Subgraph matching: load a packed graph or change a loaded one, check or draw a plan, run it.
+/* Subgraph matching: load a packed graph or change a loaded one, check or draw a plan, run it, print its rows.
  * Link librizhavaan.a.
  *
  * Every function returns 0, or the number of a refusal (below). After a refusal every number that a pointer
@@ -9,8 +9,8 @@
  *  - a pointer with a length points to that many bytes, words or records, which may be read, and written where
  *    it is not const;
  *  - no pointer is null, also where the length is 0, and each is aligned as its type asks;
- *  - what is written (store, drawn plan, scratch, list, records, the single numbers) overlaps nothing else that
- *    is passed;
+ *  - what is written (store, drawn plan, scratch, list, records, page, the single numbers) overlaps nothing else
+ *    that is passed;
  *  - a bool is true or false.
  *
  * Nothing is kept between calls, and no function allocates, waits or prints: calls on different buffers may run
@@ -59,6 +59,9 @@ extern "C" {
 /* A scratch or a match list of more words counts as one of this many, and the rest of it is untouched. */
 #define RIZHAVAAN_MAX_WORDS 1073741824
 
+/* The bytes of a page: 60 lines of 80 columns, each with a line feed. */
+#define RIZHAVAAN_PAGE_BYTES 4860
+
 enum rizhavaan_refusal {
     RIZHAVAAN_ACCEPTED = 0,
     RIZHAVAAN_GRAPH_SHORT = 1,     /* the graph file is shorter than 5 bytes or than its own size */
@@ -94,7 +97,11 @@ enum rizhavaan_refusal {
                                       edge has a vertex outside 0 to N - 1 or label 0, or the edges do not ascend
                                       strictly */
     RIZHAVAAN_CHANGES_EDGE = 28,   /* an edge is added that is there, or one is taken away that is not */
-    RIZHAVAAN_CHANGES_MANY = 29    /* the edited graph has more than 1,048,575 edges */
+    RIZHAVAAN_CHANGES_MANY = 29,   /* the edited graph has more than 1,048,575 edges */
+    RIZHAVAAN_SHEET_ROWS = 33,     /* n is not 2 to 8, there are more than 536,870,912 rows, the list is too short for
+                                      its rows, or one of their words is above 65,535, on whatever page */
+    RIZHAVAAN_SHEET_PAGE = 34,     /* the page is not 1 to the page count */
+    RIZHAVAAN_SHEET_BYTES = 35     /* the bytes are fewer than a page's */
 };
 
 /* What a run records of one operator: the rows of its result, and its cost. Scans and joins cost 0. */
@@ -156,6 +163,20 @@ uint32_t rizhavaan_run(const uint32_t *store, size_t store_len,
                        uint32_t *list, size_t list_len,
                        struct rizhavaan_record *records, size_t records_len,
                        uint64_t *rows, uint64_t *cost, uint64_t *build, uint64_t *probe);
+
+/* Fills one page of the rows of a list, n words a row, as text, and gives the page count. Refusals 33 to 35, in
+ * this order.
+ *
+ * A page is RIZHAVAAN_PAGE_BYTES bytes: 60 lines of 80 columns, each with a line feed. The first line holds the page
+ * number, 1 being the first, and the page count; each of the others the numbers of a row, 59 rows a page in list
+ * order, or nothing where the rows are at their end. Numbers are decimal, right-aligned in 8 columns each, from the
+ * line's first column on; all else is blank. The count is the rows divided by 59, rounded up, and at least 1: no rows
+ * give one page. A list longer than RIZHAVAAN_MAX_WORDS counts as that long. All words of the rows are looked at in
+ * every call, the words past them are not read. Refused, the bytes are untouched; filled, those past the page are. */
+uint32_t rizhavaan_page(const uint32_t *list, size_t list_len,
+                        uint64_t n, uint64_t rows, uint64_t page,
+                        uint8_t *bytes, size_t bytes_len,
+                        uint64_t *pages);
 
 #ifdef __cplusplus
 }

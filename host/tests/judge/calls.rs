@@ -174,6 +174,28 @@ pub fn draw_plan(r: &Random, store: &[u32], query: &[u8], room: usize) -> (u32, 
     (refusal, after)
 }
 
+/// Page into so many bytes, which hold arbitrary ones: the refusal, the page count and the page. The bytes past it stay.
+pub fn page(r: &Random, list: &[u32], [n, rows, page]: [u64; 3], room: usize) -> (u32, u64, Vec<u8>) {
+    let list = words(r, list);
+    let contents: Vec<u8> = (0..room).map(|_| r.next() as u8).collect();
+    let mut lent = bytes(r, &contents);
+    let mut numbers = Numbers::<1>::new(r);
+    let [pages] = numbers.pointers();
+    // SAFETY: as above.
+    let refusal = unsafe {
+        sys::rizhavaan_page(list.pointer(), list.len(), n, rows, page, lent.pointer_mut(), lent.len(), pages)
+    };
+    list.assert_untouched("list");
+    if refusal != 0 {
+        lent.assert_untouched("page");
+    }
+    let mut after = lent.contents("page");
+    let end = if refusal == 0 { rizhavaan::PAGE_BYTES } else { 0 };
+    assert_eq!(after[end..], contents[end..], "bytes past the page are changed");
+    after.truncate(end);
+    (refusal, numbers.after(refusal)[0], after)
+}
+
 pub struct Input<'a> {
     pub store: &'a [u32],
     pub query: &'a [u8],

@@ -16,4 +16,5 @@ pub mod program;
 pub mod query;
 pub mod random;
 pub mod rules;
+pub mod sheet;
 pub mod worked;
