@@ -122,6 +122,9 @@ fn csv(output: &mut Output, loaded: &Loaded, found: &Found) -> Result<()> {
     Ok(())
 }
 
+/// Kinds that a summary shows.
+const SHOWN_KINDS: usize = 40;
+
 /// Where kinds have names that are not declared, each kind and its count, so that a slip stands out.
 pub fn show_summary(document: &Document) {
     let is_loose = |kinds: &Kinds| !kinds.is_empty() && !kinds.is_declared();
@@ -130,9 +133,17 @@ pub fn show_summary(document: &Document) {
     }
     let summary = Summary::of(document);
     let words = |kinds: &[(String, usize)]| {
-        let some: Vec<String> = kinds.iter().take(30).map(|(kind, count)| format!("{kind} {count}")).collect();
-        let more = if kinds.len() > 30 { format!(" and {} more kinds", kinds.len() - 30) } else { String::new() };
-        some.join(", ") + &more
+        let list = |kinds: &[(String, usize)]| {
+            let words: Vec<String> = kinds.iter().map(|(kind, count)| format!("{kind} {count}")).collect();
+            words.join(", ")
+        };
+        // Of many kinds those with most and those with fewest are shown: a slip is among the fewest.
+        if kinds.len() <= SHOWN_KINDS {
+            return list(kinds);
+        }
+        let (most, rest) = kinds.split_at(SHOWN_KINDS / 2);
+        let (between, fewest) = rest.split_at(rest.len() - SHOWN_KINDS / 2);
+        format!("{}, {} kinds between, {}", list(most), between.len(), list(fewest))
     };
     tell(&format!("{} items: {}", summary.items, words(&summary.item_kinds)));
     tell(&format!("{} connections: {}", summary.connections, words(&summary.connection_kinds)));
