@@ -1,0 +1,2 @@
+-- The worked needs hold.
+pub mod Worked

@@ -1,0 +1,2 @@
+-- Worked needs of streamed runs.
+pub mod Cases

@@ -1,0 +1,1 @@
+// The worked needs of streamed runs, as one table and one theorem.
