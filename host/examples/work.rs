@@ -3,7 +3,7 @@
 //!
 //!     cargo run --release --example work -- ../examples/bowtie-bushy-join
 //!
-//! The folder has the packed files of a hang, `g.bin`, `q.bin` and `p.bin`; `tools/pack` writes them. Without `p.bin` a plan is drawn.
+//! The folder has the packed files of a hang, `g.bin`, `q.bin` and `p.bin`; `rizhavaan pack` writes them. Without `p.bin` a plan is drawn.
 mod folder;
 
 use folder::{ended, Folder};

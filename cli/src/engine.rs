@@ -1,0 +1,48 @@
+//! The proved engine, by the wrapper of its static library.
+
+use library::Cache;
+use rizhavaan_core::engine::{Answer, Engine, Record, Refusal};
+
+/// The static library.
+pub struct Library;
+
+fn refused(refusal: library::Refusal) -> Refusal {
+    Refusal(refusal.number())
+}
+
+impl Engine for Library {
+    fn load(&self, file: &[u8], store: &mut [u32]) -> Result<(u64, u64), Refusal> {
+        let loaded = library::load_into(file, store).map_err(refused)?;
+        Ok((loaded.vertices as u64, loaded.edges as u64))
+    }
+
+    fn apply_changes(&self, old: &[u32], changes: &[u8], store: &mut [u32]) -> Result<(u64, u64), Refusal> {
+        let edited = library::apply_changes_into(old, changes, store).map_err(refused)?;
+        Ok((edited.vertices as u64, edited.edges as u64))
+    }
+
+    fn draw_plan(&self, store: &[u32], query: &[u8], plan: &mut [u8]) -> Result<u64, Refusal> {
+        library::draw_plan_into(store, query, plan).map(|bytes| bytes as u64).map_err(refused)
+    }
+
+    fn page(&self, list: &[u32], width: usize, rows: usize, page: u64, bytes: &mut [u8]) -> Result<u64, Refusal> {
+        library::page_into(list, width, rows, page as usize, bytes).map(|pages| pages as u64).map_err(refused)
+    }
+
+    fn run(
+        &self,
+        store: &[u32],
+        query: &[u8],
+        plan: &[u8],
+        scratch: &mut [u32],
+        list: &mut [u32],
+        records: &mut [Record],
+    ) -> Result<Answer, Refusal> {
+        let mut lent = vec![library::Record::default(); records.len()];
+        let ran = library::run(store, query, plan, Cache::On, scratch, list, &mut lent).map_err(refused)?;
+        for (record, lent) in records.iter_mut().zip(lent) {
+            *record = Record { rows: lent.rows, cost: lent.cost };
+        }
+        Ok(Answer { rows: ran.rows as u64, cost: ran.cost, build: ran.build, probe: ran.probe })
+    }
+}

@@ -1,0 +1,174 @@
+//! The proved engine as this library sees it: the operations over lent buffers, and buffers that grow.
+//!
+//! A shell lends the engine in: the program over the wrapper in `host/`, the page over the same functions as WebAssembly.
+
+/// The number of a refusal.
+#[derive(Clone, Copy, Debug, PartialEq, Eq)]
+pub struct Refusal(pub u32);
+
+/// What a run records of one operator.
+#[repr(C)]
+#[derive(Clone, Copy, Debug, Default, PartialEq, Eq)]
+pub struct Record {
+    pub rows: u64,
+    pub cost: u64,
+}
+
+/// The numbers of an accepted run.
+#[derive(Clone, Copy, Debug, Default, PartialEq, Eq)]
+pub struct Answer {
+    pub rows: u64,
+    pub cost: u64,
+    pub build: u64,
+    pub probe: u64,
+}
+
+/// The operations of the static library, each over slices that the caller lends.
+pub trait Engine: Sync {
+    /// Load: vertices and edges.
+    fn load(&self, file: &[u8], store: &mut [u32]) -> Result<(u64, u64), Refusal>;
+
+    /// Apply changes: vertices and edges afterwards.
+    fn apply_changes(&self, old: &[u32], changes: &[u8], store: &mut [u32]) -> Result<(u64, u64), Refusal>;
+
+    /// Draw plan: how many bytes were written.
+    fn draw_plan(&self, store: &[u32], query: &[u8], plan: &mut [u8]) -> Result<u64, Refusal>;
+
+    /// Run, with the cache on.
+    fn run(
+        &self,
+        store: &[u32],
+        query: &[u8],
+        plan: &[u8],
+        scratch: &mut [u32],
+        list: &mut [u32],
+        records: &mut [Record],
+    ) -> Result<Answer, Refusal>;
+
+    /// One page of a list: how many there are. A shell that prints no pages leaves it.
+    fn page(&self, list: &[u32], width: usize, rows: usize, page: u64, bytes: &mut [u8]) -> Result<u64, Refusal> {
+        let _ = (list, width, rows, page, bytes);
+        Err(Refusal(35))
+    }
+}
+
+/// The bytes of a page: 60 lines of 80 columns, each with a line feed.
+pub const PAGE_BYTES: usize = 4_860;
+
+/// The most operators that a plan has.
+pub const MAX_OPERATORS: usize = 31;
+
+/// A drawn plan has no more bytes than this.
+pub const MAX_DRAWN_BYTES: usize = 6;
+
+/// Scratch or a list longer than this counts as this long.
+pub const MAX_WORDS: usize = 1 << 30;
+
+/// How many words the store of a graph has.
+pub fn store_words(vertices: usize, edges: usize) -> usize {
+    4 * vertices + 2 * edges + 4
+}
+
+/// Why a run has no answer.
+#[derive(Clone, Copy, Debug, PartialEq, Eq)]
+pub enum NoRun {
+    Refused(Refusal),
+    /// Scratch and list would take more bytes than are allowed.
+    Memory {
+        scratch: usize,
+        list: usize,
+    },
+}
+
+/// A run that was accepted.
+#[derive(Clone, Debug)]
+pub struct Ran {
+    pub answer: Answer,
+    /// The rows, one word for each vertex of the query.
+    pub list: Vec<u32>,
+    pub records: Vec<Record>,
+}
+
+/// Words that a run begins with. The engine clears the whole scratch, so that it is not lent more than needed.
+const FIRST_WORDS: usize = 1 << 14;
+
+/// Runs a plan in buffers that grow until it fits, within so many bytes.
+pub fn run_growing(
+    engine: &dyn Engine,
+    store: &[u32],
+    query: &[u8],
+    plan: &[u8],
+    width: usize,
+    memory: usize,
+) -> Result<Ran, NoRun> {
+    let mut scratch = vec![0; FIRST_WORDS];
+    let mut list = vec![0; FIRST_WORDS];
+    let mut records = vec![Record::default(); MAX_OPERATORS];
+    loop {
+        let answer = engine.run(store, query, plan, &mut scratch, &mut list, &mut records);
+        let (grown, other) = match answer {
+            Ok(answer) => {
+                drop(scratch);
+                list.truncate(answer.rows as usize * width);
+                return Ok(Ran { answer, list, records });
+            }
+            Err(Refusal(20)) if scratch.len() < MAX_WORDS => (&mut scratch, &list),
+            Err(Refusal(21)) if list.len() < MAX_WORDS => (&mut list, &scratch),
+            Err(refusal) => return Err(NoRun::Refused(refusal)),
+        };
+        let words = grow(grown.len(), other.len(), memory);
+        if words <= grown.len() {
+            return Err(NoRun::Memory { scratch: scratch.len(), list: list.len() });
+        }
+        // A new buffer and not a resized one: what it held is of no use.
+        *grown = Vec::new();
+        *grown = vec![0; words];
+    }
+}
+
+/// The next length of a buffer beside another, within so many bytes.
+fn grow(words: usize, beside: usize, memory: usize) -> usize {
+    let allowed = (memory / 4).saturating_sub(beside);
+    (4 * words).min(MAX_WORDS).min(allowed)
+}
+
+/// What a refusal means, in words.
+pub fn meaning(refusal: Refusal) -> &'static str {
+    match refusal.0 {
+        1 => "the graph file is too short",
+        2 => "the graph file is too long, or a fill bit is set",
+        3 => "an edge of the graph has an unknown vertex or label 0",
+        4 => "the edges of the graph do not ascend",
+        5 => "the store is too small for the graph",
+        6 => "the query file is too short",
+        7 => "the query file is too long, or a fill bit is set",
+        8 => "the query has not 2 to 8 vertices and 1 to 24 edges",
+        9 => "an edge of the query has an unknown vertex or equal ends",
+        10 => "the edges of the query do not ascend",
+        11 => "the query is not connected",
+        12 => "the bits of the plan file run out",
+        13 => "the plan file has a further byte, or a fill bit is set",
+        14 => "the plan has an operator that is unknown, or of an edge or a vertex that the query lacks",
+        15 => "an operator of the plan finds too few results, or more than one is left at the end",
+        16 => "an extend is by a covered vertex, or by one with no edge to the covered ones",
+        17 => "a join's sides share no vertex, or one has none of its own, or a query edge runs between them",
+        18 => "the plan leaves a vertex of the query uncovered",
+        19 => "no accepted graph file loads to the store",
+        20 => "the run needs more scratch",
+        21 => "the rows do not fit the list",
+        22 => "the records are fewer than the plan's operators",
+        24 => "the bytes of the drawn plan do not fit",
+        25 => "a vertex of the query has a first day above its last",
+        26 => "a pair of the query has equal or unknown vertices, or the pairs do not ascend",
+        27 => "the change file is malformed",
+        28 => "a change adds a connection that is there, or takes one away that is not",
+        29 => "the changes would make more than 1,048,575 connections",
+        30 => "a count of the run would pass 64 bits",
+        31 => "all orderings are listed for patterns of at most 5 vertices",
+        32 => "the list of orderings is too short",
+        33 => "the rows of a sheet are malformed",
+        34 => "there is no such page",
+        35 => "the page buffer is too short",
+        _ => "a refusal that this program does not know",
+    }
+}

@@ -1,0 +1,265 @@
+//! From a document to the places of its patterns.
+
+use std::borrow::Cow;
+
+use crate::document::{Document, Hang, Pattern};
+use crate::engine::{run_growing, store_words, Engine, Record, Refusal, MAX_DRAWN_BYTES, PAGE_BYTES};
+use crate::failure::Failure;
+use crate::packed::edge::Edge;
+use crate::packed::graph::Graph;
+use crate::packed::pair::Pair;
+use crate::packed::plan::Plan;
+use crate::packed::query::Query;
+use crate::symmetry;
+use crate::verify;
+
+/// Which plan a run takes.
+#[derive(Clone, Copy, Debug, PartialEq, Eq)]
+pub enum Choice {
+    /// The text's where it has one, else a drawn one.
+    Best,
+    /// The text's.
+    Given,
+    /// The engine's drawn plan.
+    Drawn,
+}
+
+/// How to look for a pattern.
+#[derive(Clone, Copy, Debug)]
+pub struct Options {
+    pub plan: Choice,
+    /// Mirror images are listed once.
+    pub once: bool,
+    /// Bytes that scratch and list may take together.
+    pub memory: usize,
+    /// The rows are not listed, only counted, and need no test.
+    pub count_only: bool,
+}
+
+impl Default for Options {
+    fn default() -> Options {
+        Options { plan: Choice::Best, once: false, memory: 1 << 30, count_only: false }
+    }
+}
+
+/// A hang that was loaded.
+pub struct Loaded<'d> {
+    pub document: &'d Document,
+    pub hang: &'d Hang,
+    store: Vec<u32>,
+    /// The connections that the store has.
+    edges: Cow<'d, [Edge]>,
+}
+
+/// The places of a pattern.
+#[derive(Clone, Debug)]
+pub struct Found<'d> {
+    pub pattern: &'d Pattern,
+    /// The pattern as it was run, with the pairs that were added.
+    pub query: Query,
+    /// Pairs that were added so that mirror images are listed once.
+    pub added: Vec<Pair>,
+    /// How often each place stands in the list.
+    pub images: usize,
+    pub plan: Plan,
+    pub plan_bytes: Vec<u8>,
+    /// The plan is the text's.
+    pub is_given: bool,
+    pub rows: Vec<u32>,
+    pub cost: u64,
+    pub build: u64,
+    pub probe: u64,
+    pub records: Vec<Record>,
+}
+
+impl Found<'_> {
+    pub fn width(&self) -> usize {
+        self.query.vertices.len()
+    }
+
+    /// How many rows there are.
+    pub fn places(&self) -> usize {
+        self.rows.len() / self.width()
+    }
+
+    /// A page of the rows, as they are printed by numbers, and how many pages there are.
+    pub fn page(&self, engine: &dyn Engine, page: u64) -> Result<(Vec<u8>, u64), Failure> {
+        let mut bytes = vec![0; PAGE_BYTES];
+        let filled = engine.page(&self.rows, self.width(), self.places(), page, &mut bytes);
+        let pages = filled.map_err(|refusal| Failure::Refused { what: "a page", refusal })?;
+        Ok((bytes, pages))
+    }
+
+    pub fn rows(&self) -> std::slice::ChunksExact<'_, u32> {
+        self.rows.chunks_exact(self.width())
+    }
+}
+
+impl<'d> Loaded<'d> {
+    /// Loads the hang of a document.
+    pub fn load(engine: &dyn Engine, document: &'d Document) -> Result<Loaded<'d>, Failure> {
+        let hang = match &document.hang {
+            Some(hang) => hang,
+            None => return Err(Failure::Usage("there is no hang: no [graph] and no table of items".into())),
+        };
+        let bytes = hang.graph.to_bytes();
+        verify::graph(&bytes, &hang.graph).map_err(Failure::Check)?;
+        let (n, m) = (hang.graph.vertices.len(), hang.graph.edges.len());
+        let mut store = vec![0; store_words(n, m)];
+        let loaded = engine.load(&bytes, &mut store);
+        let counts = loaded.map_err(|refusal| Failure::Refused { what: "the hang", refusal })?;
+        if counts != (n as u64, m as u64) {
+            return Err(Failure::Check(format!("of {n} items and {m} connections the engine loaded {counts:?}")));
+        }
+        Ok(Loaded { document, hang, store, edges: Cow::Borrowed(&hang.graph.edges) })
+    }
+
+    /// The hang after the changes of the document.
+    pub fn changed(&self, engine: &dyn Engine) -> Result<Loaded<'d>, Failure> {
+        let document = self.document;
+        let changes = match &document.changes {
+            Some(changes) => changes,
+            None => return Err(Failure::Usage("there are no [changes]".into())),
+        };
+        if let Some(fault) = &document.changes_fault {
+            return Err(Failure::At(Box::new(fault.clone())));
+        }
+        let bytes = changes.to_bytes();
+        let unpacked = crate::packed::change::Changes::from_bytes(&bytes, &self.hang.graph);
+        if unpacked.ok().as_ref() != Some(changes) {
+            return Err(Failure::Check("the packed changes unpack to others".into()));
+        }
+        let edges = changes.applied(&self.edges);
+        let mut store = vec![0; store_words(self.hang.graph.vertices.len(), edges.len())];
+        let applied = engine.apply_changes(&self.store, &bytes, &mut store);
+        let counts = applied.map_err(|refusal| Failure::Refused { what: "the changes", refusal })?;
+        let expected = (self.hang.graph.vertices.len() as u64, edges.len() as u64);
+        if counts != expected {
+            return Err(Failure::Check(format!(
+                "the changed hang has {counts:?} items and connections, not {expected:?}"
+            )));
+        }
+        Ok(Loaded { document, hang: self.hang, store, edges: Cow::Owned(edges) })
+    }
+
+    /// The graph that was loaded.
+    pub fn graph(&self) -> Graph {
+        Graph { vertices: self.hang.graph.vertices.clone(), edges: self.edges.to_vec() }
+    }
+
+    pub fn edges(&self) -> &[Edge] {
+        &self.edges
+    }
+
+    /// The words of the store.
+    pub fn store(&self) -> &[u32] {
+        &self.store
+    }
+
+    /// Finds the places of a pattern, and tests them.
+    pub fn find<'p>(&self, engine: &dyn Engine, pattern: &'p Pattern, options: &Options) -> Result<Found<'p>, Failure> {
+        if let Some(fault) = &pattern.fault {
+            return Err(Failure::At(Box::new(fault.clone())));
+        }
+        let (query, added) = if options.once { once(pattern)? } else { (pattern.query.clone(), Vec::new()) };
+        let query_bytes = query.to_bytes();
+        verify::query(&query_bytes, &query).map_err(Failure::Check)?;
+        let (plan_bytes, is_given) = self.plan_bytes(engine, pattern, &query_bytes, options.plan)?;
+        let plan = verify::plan(&plan_bytes, &query).map_err(Failure::Check)?;
+        let width = query.vertices.len();
+        let ran = run_growing(engine, &self.store, &query_bytes, &plan_bytes, width, options.memory)
+            .map_err(|no_run| Failure::run(no_run, options.memory))?;
+        if !options.count_only {
+            let mut test = verify::Rows::new(self.document, self.hang, pattern, &query, &self.edges);
+            test.test(&ran.list).map_err(Failure::Check)?;
+        }
+        let images = symmetry::exchanges(&query).len();
+        Ok(Found {
+            pattern,
+            added,
+            images,
+            records: ran.records[..plan.operators.len()].to_vec(),
+            query,
+            plan,
+            plan_bytes,
+            is_given,
+            rows: ran.list,
+            cost: ran.answer.cost,
+            build: ran.answer.build,
+            probe: ran.answer.probe,
+        })
+    }
+
+    fn plan_bytes(
+        &self,
+        engine: &dyn Engine,
+        pattern: &Pattern,
+        query: &[u8],
+        choice: Choice,
+    ) -> Result<(Vec<u8>, bool), Failure> {
+        let given = match choice {
+            Choice::Drawn => None,
+            Choice::Best | Choice::Given => pattern.plan.as_ref(),
+        };
+        if let Some(plan) = given {
+            if let Some(fault) = &pattern.plan_fault {
+                return Err(Failure::At(Box::new(fault.clone())));
+            }
+            return Ok((plan.to_bytes(), true));
+        }
+        if choice == Choice::Given {
+            return Err(Failure::Usage(format!("the pattern '{}' has no [plan]", pattern.title())));
+        }
+        let mut bytes = vec![0; MAX_DRAWN_BYTES];
+        let drawn = engine.draw_plan(&self.store, query, &mut bytes);
+        let length = drawn.map_err(|refusal: Refusal| Failure::Refused { what: "to draw a plan", refusal })?;
+        bytes.truncate(length as usize);
+        Ok((bytes, false))
+    }
+}
+
+/// The query with pairs that leave each place once, and these pairs.
+pub fn once(pattern: &Pattern) -> Result<(Query, Vec<Pair>), Failure> {
+    let added = symmetry::pairs(&pattern.query);
+    let mut query = pattern.query.clone();
+    query.pairs.extend(&added);
+    query.pairs.sort_unstable();
+    let most = *Query::LIMITS.pairs.end();
+    if query.pairs.len() > most {
+        let reason = format!("'{}' would need {} pairs, of {most} at most", pattern.title(), query.pairs.len());
+        return Err(Failure::Usage(reason));
+    }
+    Ok((query, added))
+}
+
+/// How many places, in words.
+pub fn places(count: usize) -> String {
+    match count {
+        1 => "1 place".into(),
+        n => format!("{n} places"),
+    }
+}
+
+/// The patterns of these names, or all of them where there are no names.
+pub fn chosen<'d>(document: &'d Document, names: &[String]) -> Result<Vec<&'d Pattern>, Failure> {
+    if document.patterns.is_empty() {
+        return Err(Failure::Usage("there is no pattern: no [query]".into()));
+    }
+    if names.is_empty() {
+        return Ok(document.patterns.iter().collect());
+    }
+    let mut chosen = Vec::new();
+    for name in names {
+        let found = document.patterns.iter().find(|p| p.title() == name);
+        chosen.push(found.ok_or_else(|| {
+            let titles = document.patterns.iter().map(Pattern::title);
+            let near = crate::near::nearest(name, titles.clone());
+            let all: Vec<&str> = titles.collect();
+            Failure::Usage(match near {
+                Some(near) => format!("there is no pattern '{name}'; did you mean '{near}'?"),
+                None => format!("there is no pattern '{name}'; there are {}", all.join(", ")),
+            })
+        })?);
+    }
+    Ok(chosen)
+}
