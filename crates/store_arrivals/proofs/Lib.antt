@@ -1,0 +1,4 @@
+-- Laws of the check by cursors.
+pub mod Agreeing
+pub mod Matching
+pub mod Walking
