@@ -13,8 +13,9 @@ use Rattle.lists.proofs.All.{all-at, all-range, all-getD, getD-all}
 use Rattle.lists.proofs.Sort.{ascending-at, at-ascending}
 use Rattle.adjacency.specs.inner.Side.{listOn}
 use Rattle.adjacency.specs.inner.Portion.{member}
-use Rattle.short_lists.specs.inner.Check.{mirror, entryFits, listFits, sideFits, listMirrored, sideMirrored}
-use Rattle.store_arrivals.specs.inner.Arrivals.{before, sidesAgree}
+use Rattle.short_lists.specs.inner.Check.{unless, mirror, entryFits, listFits, sideFits, listMirrored, sideMirrored}
+use Rattle.store_arrivals.specs.inner.Arrivals.{before, sidesAgree, Refutes}
+use Rattle.short_lists.proofs.Loops.{answer-fails}
 
 -- ---- a list
 
@@ -84,6 +85,18 @@ module _ (store : List ℕ) (n other v : ℕ) (s : List ℕ) (i : ℕ) (l : i < 
       (λ t.
       clash
       (all-getD (λ (k : ℕ). member (mirror v k) (listOn store n other (k % 65536))) s i 0 l (and-r (listFits n s) (listMirrored store n other v s) t)) e)
+
+  -- The answers to the tests of both.
+  module _ {r : ℕ} where
+    pub entry-refutes : {last : ℕ} → last ≡ before s i → r ≡ unless (entryFits n last (getD s i 0)) → (r ≡ 0 → ⊥)
+        → Refutes r (listFits n s && listMirrored store n other v s)
+    entry-refutes {last} q e h one =
+        let f : entryFits n last (getD s i 0) ≡ false = answer-fails (entryFits n last (getD s i 0)) e h in
+        (e ∙ ap unless f, entry-breaks (ap (λ (k : ℕ). entryFits n k (getD s i 0)) (sym q) ∙ f))
+
+    pub mirror-refutes : {list : List ℕ} → list ≡ listOn store n other (getD s i 0 % 65536) → Refutes r (member (mirror v (getD s i 0)) list)
+        → Refutes r (listFits n s && listMirrored store n other v s)
+    mirror-refutes q g one = (g one .0, mirror-lacks (ap (member (mirror v (getD s i 0))) (sym q) ∙ g one .1))
 
 -- ---- both sides
 

@@ -1,4 +1,5 @@
 -- Laws of the check by cursors.
 pub mod Agreeing
 pub mod Matching
+pub mod Stepping
 pub mod Walking

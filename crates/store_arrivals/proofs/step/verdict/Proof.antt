@@ -1,60 +1,62 @@
+-- `store_arrivals::step::verdict` meets its contract: the answers to the tests of an entry. Assumes nothing.
+use native.Mathlib.Omega.{arith}
+use Prim.Native.Nat.{_%_, _<_}
+use denote.Ref.{now}
+use lib.ListN.{getD}
+use Rattle.short_lists.proofs.Loops.{entry-in}
+use Rattle.store_arrivals.proofs.Agreeing.{entry-refutes, mirror-refutes}
 use borrow.Author.Needs.{needs}
 use Rattle.store_arrivals.proofs.step.verdict.Statement.{statement}
 use Rattle.store_arrivals.proofs.step.verdict.Tie as tie
-use Rattle.store_arrivals.proofs.step.verdict.Reads as reads
-use Rattle.store_arrivals.proofs.step.verdict.Lts as lts
-use Rattle.adjacency.proofs.neighbours.Reads as neighbours-reads
-use Rattle.store_arrivals.proofs.step.entry_before.Reads as entry-before-reads
-use Rattle.store_arrivals.proofs.step.entry_fault.Reads as entry-fault-reads
-use Rattle.store_arrivals.proofs.step.lacks.Reads as lacks-reads
 
--- src/step.rt:81:17
 mul-entry : tie.Need-mul-entry
 mul-entry c = search needs
 
--- src/step.rt:81:17
 shared-slice-read-entry : tie.Need-shared-slice-read-entry
 shared-slice-read-entry c = search needs
 
--- src/step.rt:82:36
 entry-before-requires : tie.Need-entry-before-requires
 entry-before-requires c κs = search needs
 
--- src/step.rt:82:9
 entry-fault-requires : tie.Need-entry-fault-requires
 entry-fault-requires c κs = search needs
 
--- src/step.rt:84:9
 returns : tie.Need-returns
-returns c = ?
+returns c = 
+    let a = c .before .before .before .before .before .before in
+    entry-refutes (now (a .args .store)) (a .args .n) (a .args .other) (a .args .v) (now (a .args .list)) (a .args .i) (omega arith)
+    (c .before .before .entry-before .ensures) (c .before .entry-fault .ensures) (c .if1 .taken)
 
--- src/step.rt:86:13
+-- An entry that passed its test has a label below 256, and a neighbour below n.
+entry : (c : tie.Else1)
+    → let a = c .before .before .before .before .before .before in
+    let k = getD (now (a .args .list)) (a .args .i) 0 in
+    (k < 16777216) × (k % 65536 < a .args .n)
+entry c = entry-in _ _ _ (c .before .entry-fault .ensures) (c .if1 .left)
+
 cast-x : tie.Need-cast-x
 cast-x c = search needs
 
--- src/step.rt:87:18
 sub-mirror : tie.Need-sub-mirror
 sub-mirror c = search needs
 
--- src/step.rt:87:48
 cast-mirror : tie.Need-cast-mirror
 cast-mirror c = search needs
 
--- src/step.rt:87:18
 add-mirror : tie.Need-add-mirror
-add-mirror c = ?
+add-mirror c = omega (arith, entry c)
 
--- src/step.rt:88:11
 neighbours-requires : tie.Need-neighbours-requires
-neighbours-requires c κs = ?
+neighbours-requires c κs = c .before .before .before .before .before .before .pre .0 _ (entry c .1)
 
--- src/step.rt:88:5
 lacks-requires : tie.Need-lacks-requires
 lacks-requires c κs = search needs
 
--- src/step.rt:77:1
 returns-2 : tie.Need-returns-2
-returns-2 c = ?
+returns-2 c = 
+    let a = c .before .before .before .before .before .before .before .before in
+    mirror-refutes (now (a .args .store)) (a .args .n) (a .args .other) (a .args .v) (now (a .args .list)) (a .args .i) (omega arith)
+    (c .before .neighbours .ensures) (c .lacks .ensures)
 
 pub verdict-spec : {M : Type 1} → statement M
 verdict-spec =
