@@ -2,14 +2,14 @@
 use mathlib.Core.Path.{_≡_, refl, sym, _∙_, ap, subst}
 use mathlib.Core.Bool.{Bool, false, _&&_}
 use mathlib.Core.List.{List}
-use Prim.Native.Nat.{ℕ, suc, _+_, _*_, _≤_, _<_}
+use Prim.Native.Nat.{ℕ, _+_, _*_, _/_, _≤_, _<_}
 use native.Mathlib.Omega.{arith}
 use lib.ListN.{length, getD, set}
 use Rattle.adjacency.specs.inner.Side.{listOn}
 use Rattle.short_lists.specs.inner.Check.{listFits, listMirrored}
-use Rattle.store_arrivals.specs.inner.Arrivals.{sidesAgree, Refutes, Outcome, Matched, WalkedIn, Sides, StepFrom, Stepped}
+use Rattle.store_arrivals.specs.inner.Arrivals.{sidesAgree, Refutes, Outcome, Matched, WalkedIn, Sides, Blocks, Tables, Labelled, StepFrom}
 use Rattle.store_arrivals.proofs.Agreeing.{list-breaks}
-use Rattle.store_arrivals.proofs.Walking.{walked-next}
+use Rattle.store_arrivals.proofs.Walking.{walked-on, walked-next}
 
 -- ---- answers
 
@@ -18,6 +18,9 @@ undecided = record { passed = λ e. absurd (omega arith); refutes = λ h one. ab
 
 pub holds : {b : Bool} {H : Type 0} → H → Outcome 0 b H
 holds h = record { passed = λ e. h; refutes = λ no one. absurd (no refl) }
+
+pub passes-on : {r : ℕ} {b : Bool} {H : Type 0} → Outcome r b H → r ≡ 0 → Outcome 0 b H
+passes-on o e = holds (o .passed e)
 
 -- An answer that is not 0 is handed on.
 pub handed : {r : ℕ} {b : Bool} {H G : Type 0} → Outcome r b H → (r ≡ 0 → ⊥) → Outcome r b G
@@ -33,7 +36,7 @@ module _ {store : List ℕ} {n side other : ℕ} {back : List ℕ} {base v : ℕ
   pub walked-step : {from i : ℕ} {new : List ℕ} → from ≡ getD done v 0 → Matched n v base list back from i cursors new
       → WalkedIn store n side other back new (set done v i) (base + v + 1)
   walked-step {from} {i} {new} e m =
-      walked-next (f .walked) (f .vertex-in) (s .few) (f .begins) (f .given) (f .narrow)
+      walked-next (f .walked) (f .vertex-in) (s .few) (f .labelled .begins) (f .labelled .given) (f .labelled .narrow)
       (subst (λ (l : List ℕ). Matched n v base l back (getD done v 0) i cursors new) q
       (subst (λ (k : ℕ). Matched n v base list back k i cursors new) e m))
       (f .done-fit)
@@ -47,3 +50,28 @@ module _ {store : List ℕ} {n side other : ℕ} {back : List ℕ} {base v : ℕ
             λ no one.
             (g one .0, list-breaks store n side other v (f .vertex-in) (ap (λ (l : List ℕ). listFits n l && listMirrored store n other v l) (sym q) ∙ g one .1));
       }
+
+-- ---- the tables
+
+pub tables-kept : {n : ℕ} {cursors done sets cursors′ done′ sets′ : List ℕ} → Tables n cursors done sets → length cursors′ ≡ length cursors
+    → length done′ ≡ length done → length sets′ ≡ length sets → Tables n cursors′ done′ sets′
+tables-kept {n} t a b c =
+    record {
+      cursors-fit = omega (arith, t .cursors-fit);
+      done-fit = omega (arith, t .done-fit);
+      sets-fit = subst (λ (k : ℕ). Blocks n k) (sym c) (t .sets-fit);
+    }
+
+-- The word of a vertex in a set.
+pub word-in : {n words v set : ℕ} → Blocks n words → v < n → set < 16 → v / 64 * 16 + set < words
+word-in b h k = omega (arith, b .long, b .fit)
+
+pub block-in : {n words set : ℕ} → Blocks n words → (i : ℕ) → i * 64 < n → set < 16 → i * 16 + set < words
+block-in b i h k = omega (arith, b .long, b .fit)
+
+-- A vertex that is not passed yet.
+pub next-step : {store : List ℕ} {n side other : ℕ} {back : List ℕ} {base v next : ℕ} {cursors done sets : List ℕ} → Labelled base
+    → Tables n cursors done sets → WalkedIn store n side other back cursors done next → v < n → next ≤ base + v
+    → StepFrom store n side other back base v cursors done
+next-step l t w h k =
+    record { vertex-in = h; labelled = l; cursors-fit = t .cursors-fit; done-fit = t .done-fit; walked = walked-on w k }

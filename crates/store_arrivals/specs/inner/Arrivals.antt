@@ -99,26 +99,34 @@ pub record Sides (store : List ℕ) (n side other : ℕ) (back : List ℕ) : Typ
   pub countable : length back ≤ maxGraphEdges
   pub entries : back ≡ take (length back) (drop (other + n + 1) store)
 
--- Tables of a word for each vertex, and sets of them in blocks of 64.
+-- So many words hold sets of n vertices, 16 sets in blocks of 64 vertices.
+pub record Blocks (n words : ℕ) : Type 0 where
+  pub blocks : ℕ
+  pub long : words ≡ 16 * blocks
+  pub fit : n ≤ 64 * blocks
+
+-- Tables of a word for each vertex, and sets of vertices.
 pub record Tables (n : ℕ) (cursors done sets : List ℕ) : Type 0 where
   pub cursors-fit : n ≤ length cursors
   pub done-fit : n ≤ length done
-  pub blocks : ℕ
-  pub sets-long : length sets ≡ 16 * blocks
-  pub sets-fit : n ≤ 64 * blocks
+  pub sets-fit : Blocks n (length sets)
 
--- Vertex v is next among those of the label whose entries begin at `base`.
-pub record StepFrom (store : List ℕ) (n side other : ℕ) (back : List ℕ) (base v : ℕ) (cursors done : List ℕ) : Type 0 where
-  pub vertex-in : v < n
+-- The entries of a label begin at `base`.
+pub record Labelled (base : ℕ) : Type 0 where
   pub label : ℕ
   pub begins : base ≡ label * entrySpan
   pub given : 0 < label
   pub narrow : label < 256
+
+-- Vertex v is next among those of the label whose entries begin at `base`.
+pub record StepFrom (store : List ℕ) (n side other : ℕ) (back : List ℕ) (base v : ℕ) (cursors done : List ℕ) : Type 0 where
+  pub vertex-in : v < n
+  pub labelled : Labelled base
   pub cursors-fit : n ≤ length cursors
   pub done-fit : n ≤ length done
   pub walked : WalkedIn store n side other back cursors done (base + v)
 
--- And after that, with an answer and the label of its next entry.
+-- After that, with an answer and the label of its next entry.
 pub record Stepped (store : List ℕ) (n side other : ℕ) (back : List ℕ) (base v : ℕ) (cursors done : List ℕ) (fault label : ℕ) : Type 0 where
   pub outcome : Outcome fault (sidesAgree store n side other) (WalkedIn store n side other back cursors done (base + v + 1))
   pub narrow : label < 256

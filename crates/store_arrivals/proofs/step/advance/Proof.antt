@@ -26,7 +26,7 @@ matched-requires c κs =
     let s = a .pre .0 in
     let f = a .pre .1 in (
       (begins-inside s f (c .before .before .before .neighbours .ensures) (c .before .wide-count .ensures), f .vertex-in, s .few, f .cursors-fit),
-      (omega (arith, f .begins, f .given), omega (arith, f .begins, f .narrow), s .countable),
+      (omega (arith, f .labelled .begins, f .labelled .given), omega (arith, f .labelled .begins, f .labelled .narrow), s .countable),
     )
 
 cast-if1 : tie.Need-cast-if1
