@@ -1,5 +1,6 @@
 -- Laws of the check by cursors.
 pub mod Agreeing
+pub mod Finished
 pub mod Lowest
 pub mod Matching
 pub mod Stepping

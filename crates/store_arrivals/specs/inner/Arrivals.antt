@@ -2,13 +2,13 @@
 -- order of its list on the other side, and a cursor for each vertex tells where the next one stands. Assumes nothing.
 use mathlib.Core.Path.{_≡_}
 use mathlib.Core.Logic.{_⊎_}
-use mathlib.Core.Bool.{Bool, false, _&&_}
+use mathlib.Core.Bool.{Bool, true, false, _&&_}
 use mathlib.Core.List.{List}
 use Prim.Native.Nat.{ℕ, zero, suc, _+_, _-_, _*_, _%_, _≤_, _<_}
 use lib.ListN.{length, getD, take, drop}
 use Rattle.graph.specs.Graph.{maxGraphVertices, maxGraphEdges, entrySpan, entryEnd}
 use Rattle.adjacency.specs.inner.Side.{listOn, Within}
-use Rattle.short_lists.specs.inner.Check.{unless, mirror, sideFits, sideMirrored}
+use Rattle.short_lists.specs.inner.Check.{unless, mirror, offsetsFit, offsetsOn, sideFits, sideMirrored}
 
 -- ---- answers: 0 where both sides fit and mirror each other, 19 where they do not, 1 where that is not known
 
@@ -91,6 +91,15 @@ WalkedIn store n side other back cursors done next =
 
 -- ---- what the functions ask for
 
+-- The offsets of both sides are as they should be.
+pub record Rising (store : List ℕ) (n m side other : ℕ) : Type 0 where
+  pub room : side + n + 1 + m ≤ length store
+  pub other-room : other + n + 1 + m ≤ length store
+  pub rises : offsetsFit m (offsetsOn store n side) ≡ true
+  pub other-rises : offsetsFit m (offsetsOn store n other) ≡ true
+  pub few : n ≤ maxGraphVertices
+  pub countable : m ≤ maxGraphEdges
+
 -- The lists of both sides lie in the store, and the entries of the other one are `back`.
 pub record Sides (store : List ℕ) (n side other : ℕ) (back : List ℕ) : Type 0 where
   pub lists : (v : ℕ) → v < n → Within store n side v
@@ -98,6 +107,7 @@ pub record Sides (store : List ℕ) (n side other : ℕ) (back : List ℕ) : Typ
   pub few : n ≤ maxGraphVertices
   pub countable : length back ≤ maxGraphEdges
   pub entries : back ≡ take (length back) (drop (other + n + 1) store)
+  pub ends : (v : ℕ) → v < n → getD store (other + v + 1) 0 ≤ length back
 
 -- So many words hold sets of n vertices, 16 sets in blocks of 64 vertices.
 pub record Blocks (n words : ℕ) : Type 0 where

@@ -1,117 +1,106 @@
+-- `store_arrivals::passes::label_pass` meets its contract: the vertices of the words before i are passed. Assumes nothing.
+use mathlib.Core.Path.{_≡_, refl}
+use Prim.Native.Nat.{_+_, _*_, _-_, _≤_}
+use native.Mathlib.Omega.{arith}
+use lib.ListN.{length}
+use borrow.Author.Needs.{needs}
+use Rattle.store_arrivals.specs.inner.Arrivals.{WalkedIn}
+use Rattle.store_arrivals.proofs.Lowest.{lowest-most}
+use Rattle.store_arrivals.proofs.Walking.{walked-on}
+use Rattle.store_arrivals.proofs.Stepping.{undecided, holds, handed, tables-kept, block-in}
 use Rattle.store_arrivals.proofs.passes.label_pass.Statement.{statement}
 use Rattle.store_arrivals.proofs.passes.label_pass.Tie as tie
-use Rattle.store_arrivals.proofs.passes.label_pass.Reads as reads
-use Rattle.store_arrivals.proofs.passes.label_pass.Lts as lts
-use Rattle.store_arrivals.proofs.passes.wide.Reads as wide-reads
-use Rattle.store_arrivals.proofs.passes.word_pass.Reads as word-pass-reads
 
 abbrev Inv-loop : tie.InvT-loop
 Inv-loop store n side other back label cursors₀ done₀ sets₀ sets-of₀ set base i₀ cursors done sets sets-of i =
-    ?
+    WalkedIn store n side other back cursors done (base + 64 * i) × (64 * i ≤ n + 63) × (length cursors ≡ length cursors₀)
+    × (length done ≡ length done₀) × (length sets ≡ length sets₀)
 
 abbrev μ-loop : tie.MeasureT-loop
-μ-loop store n side other back label cursors₀ done₀ sets₀ sets-of₀ set base i₀ cursors done sets sets-of i =
-    ?
+μ-loop store n side other back label cursors₀ done₀ sets₀ sets-of₀ set base i₀ cursors done sets sets-of i = n + 64 - i * 64
 
--- src/passes.rt:158:20
 element-copy-out-wide : tie.Need-element-copy-out-wide Inv-loop μ-loop
-element-copy-out-wide c = ?
+element-copy-out-wide c = omega arith
 
--- src/passes.rt:158:9
 wide-requires : tie.Need-wide-requires Inv-loop μ-loop
-wide-requires c κs = ?
+wide-requires c κs = search needs
 
--- src/passes.rt:160:9
 returns : tie.Need-returns Inv-loop μ-loop
-returns c = ?
+returns c = holds (walked-on (c .before .before .before .before .before .before .before .before .pre .1 .1) (omega arith))
 
--- src/passes.rt:163:9
 returns-2 : tie.Need-returns-2 Inv-loop μ-loop
-returns-2 c = ?
+returns-2 c = undecided
 
--- src/passes.rt:165:16
 cast-base : tie.Need-cast-base Inv-loop μ-loop
-cast-base c = ?
+cast-base c = omega arith
 
--- src/passes.rt:165:16
 mul-base : tie.Need-mul-base Inv-loop μ-loop
-mul-base c = ?
+mul-base c = omega arith
 
--- src/passes.rt:167:5
 loop-holds : tie.Need-loop-holds Inv-loop μ-loop
-loop-holds c = ?
+loop-holds c = (walked-on (c .before .before .before .before .before .before .before .before .before .pre .1 .1) (omega arith), omega arith, refl, refl, refl)
 
--- src/passes.rt:167:11
 mul-loop : tie.Need-mul-loop Inv-loop μ-loop
-mul-loop c = ?
+mul-loop c = omega arith
 
--- src/passes.rt:168:25
 mul-word : tie.Need-mul-word Inv-loop μ-loop
-mul-word c = ?
+mul-word c = omega arith
 
--- src/passes.rt:168:25
 add-word : tie.Need-add-word Inv-loop μ-loop
-add-word c = ?
+add-word c = omega arith
 
--- src/passes.rt:168:25
 sub-word : tie.Need-sub-word Inv-loop μ-loop
-sub-word c = ?
+sub-word c = omega arith
 
--- src/passes.rt:168:20
 mul-word-2 : tie.Need-mul-word-2 Inv-loop μ-loop
-mul-word-2 c = ?
+mul-word-2 c = omega arith
 
--- src/passes.rt:168:20
 slice-read-word : tie.Need-slice-read-word Inv-loop μ-loop
-slice-read-word c = ?
+slice-read-word c =
+    let l = c .before .before in
+    let p = l .before .before .before .before .before .before .before .before .before .before .pre in
+    omega (arith, l .loop .inv .4, block-in {set = 15} (p .0 .1 .sets-fit) (l .loop .i) (c .before .loop-test .taken) (omega arith))
 
--- src/passes.rt:169:13
 word-pass-requires : tie.Need-word-pass-requires Inv-loop μ-loop
-word-pass-requires c κs = ?
+word-pass-requires c κs =
+    let l = c .before .before .before .before .before .before in
+    let p = l .before .before .before .before .before .before .before .before .before .before .pre in (
+      (p .0 .0, tables-kept (p .0 .1) (l .loop .inv .2) (l .loop .inv .3) (l .loop .inv .4)),
+      ((record { label = l .before .before .before .before .before .before .before .before .before .before .args .label; begins = refl; given = omega arith; narrow = omega arith }, omega arith), walked-on (l .loop .inv .0) (omega arith)),
+    )
 
--- src/passes.rt:184:13
 same-length : tie.Need-same-length Inv-loop μ-loop
-same-length c = ?
+same-length c = search needs
 
--- src/passes.rt:184:13
 same-length-2 : tie.Need-same-length-2 Inv-loop μ-loop
-same-length-2 c = ?
+same-length-2 c = search needs
 
--- src/passes.rt:184:13
 same-length-3 : tie.Need-same-length-3 Inv-loop μ-loop
-same-length-3 c = ?
+same-length-3 c = search needs
 
--- src/passes.rt:184:13
 returns-3 : tie.Need-returns-3 Inv-loop μ-loop
-returns-3 c = ?
+returns-3 c = handed (c .before .before .before .before .before .before .before .word-pass .ensures) (c .if3 .taken)
 
--- src/passes.rt:186:9
 add-i : tie.Need-add-i Inv-loop μ-loop
-add-i c = ?
+add-i c = omega arith
 
--- src/passes.rt:167:5
 loop-less : tie.Need-loop-less Inv-loop μ-loop
-loop-less c = ?
+loop-less c = omega arith
 
--- src/passes.rt:167:5
 loop-again : tie.Need-loop-again Inv-loop μ-loop
-loop-again c = ?
+loop-again c = (walked-on (c .before .before .before .before .before .before .before .word-pass .ensures .passed (c .if3 .left)) (omega arith), omega arith, search needs, search needs, search needs)
 
--- src/passes.rt:140:1
 same-length-4 : tie.Need-same-length-4 Inv-loop μ-loop
-same-length-4 c = ?
+same-length-4 c = c .before .loop .inv .2
 
--- src/passes.rt:140:1
 same-length-5 : tie.Need-same-length-5 Inv-loop μ-loop
-same-length-5 c = ?
+same-length-5 c = c .before .loop .inv .3
 
--- src/passes.rt:140:1
 same-length-6 : tie.Need-same-length-6 Inv-loop μ-loop
-same-length-6 c = ?
+same-length-6 c = c .before .loop .inv .4
 
--- src/passes.rt:140:1
 returns-4 : tie.Need-returns-4 Inv-loop μ-loop
-returns-4 c = ?
+returns-4 c = let l = c .before in holds (walked-on (l .loop .inv .0) (omega (arith, l .before .before .before .before .before .before .before .before .before .before .pre .0 .0 .few)))
 
 pub label-pass-spec : {M : Type 1} → statement M
 label-pass-spec =
