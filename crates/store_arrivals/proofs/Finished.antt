@@ -12,15 +12,15 @@ use Rattle.adjacency.specs.inner.Side.{listOn, Within}
 use Rattle.adjacency.specs.inner.Portion.{member}
 use Rattle.short_lists.specs.inner.Check.{unless, mirror, listFits, sideFits, listMirrored, sideMirrored}
 use Rattle.short_lists.proofs.Loops.{passes, refused}
-use Rattle.short_lists.proofs.Offsets.{offsets-rising, offsets-within, offset-le}
-use Rattle.store_arrivals.specs.inner.Arrivals.{before, sidesAgree, Outcome, Decides, Word, Arrived, Done, WalkedIn, Rising, Sides}
+use Rattle.short_lists.proofs.Offsets.{Rising, offsets-rising, offsets-within, offset-le}
+use Rattle.store_arrivals.specs.inner.Arrivals.{before, sidesAgree, Outcome, Decides, Word, Arrived, Done, WalkedIn, BothRise, Sides}
 use Rattle.store_arrivals.proofs.Agreeing.{at-fits, member-at, agree}
 
 -- ---- the start
 
-pub walked-none : {store : List ℕ} {n side other : ℕ} {back cursors done : List ℕ} → ((t : ℕ) → t < n → getD cursors t 0 ≡ getD store (other + t) 0)
+pub walked-none : (store : List ℕ) {n : ℕ} (side other : ℕ) {back cursors done : List ℕ} → ((t : ℕ) → t < n → getD cursors t 0 ≡ getD store (other + t) 0)
     → ((v : ℕ) → v < n → getD done v 0 ≡ 0) → (next : ℕ) → WalkedIn store n side other back cursors done next
-walked-none at none next =
+walked-none store side other at none next =
     record {
       begun = λ t l. omega (arith, at t l);
       words = λ t c l s b. absurd (omega (arith, at t l));
@@ -36,7 +36,7 @@ copied-at store n other k rest h r t l =
     ∙ getD-take n (take k (drop other store)) t 0 l ∙ getD-take k (drop other store) t 0 (omega arith) ∙ getD-drop other store t 0
 
 -- The sides of a store whose offsets rise.
-pub rising-sides : {store : List ℕ} {n m side other : ℕ} → Rising store n m side other
+pub rising-sides : {store : List ℕ} {n m side other : ℕ} → BothRise store n m side other
     → {k : ℕ} → k ≡ m → Sides store n side other (take k (drop (other + n + 1) store))
 rising-sides {store} {n} {m} {side} {other} r {k} e =
     record {
@@ -48,6 +48,7 @@ rising-sides {store} {n} {m} {side} {other} r {k} e =
       ends = λ v l. omega (arith, long, ends v l);
     }
   where
+    up : Rising m n (λ (v : ℕ). getD store (other + v) 0)
     up = offsets-rising store n m other (r .other-room) (r .other-rises)
 
     long : length (take k (drop (other + n + 1) store)) ≡ k

@@ -4,4 +4,5 @@ pub mod Finished
 pub mod Lowest
 pub mod Matching
 pub mod Stepping
+pub mod Sums
 pub mod Walking

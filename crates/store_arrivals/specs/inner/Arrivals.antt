@@ -92,7 +92,7 @@ WalkedIn store n side other back cursors done next =
 -- ---- what the functions ask for
 
 -- The offsets of both sides are as they should be.
-pub record Rising (store : List ℕ) (n m side other : ℕ) : Type 0 where
+pub record BothRise (store : List ℕ) (n m side other : ℕ) : Type 0 where
   pub room : side + n + 1 + m ≤ length store
   pub other-room : other + n + 1 + m ≤ length store
   pub rises : offsetsFit m (offsetsOn store n side) ≡ true
