@@ -1,19 +1,21 @@
 -- The start and the end of the walk: with every entry done and every cursor at the end of its list, both sides fit, and the first is
 -- mirrored on the second. Assumes nothing.
 use mathlib.Core.Path.{_≡_, refl, sym, _∙_, ap}
-use mathlib.Core.Bool.{Bool, true}
+use mathlib.Core.Bool.{Bool, true, false}
 use mathlib.Core.List.{List, _++_}
 use Prim.Native.Nat.{ℕ, zero, suc, _+_, _-_, _%_, _≤_, _<_}
 use native.Mathlib.Omega.{arith}
 use lib.ListN.{length, getD, take, drop, length-drop, length-take, List·getD-append}
 use lib.Seq.{getD-take, getD-drop, length-take-le}
+use lib.Dec.{eqb}
+use borrow.Author.Tests.{eqb-true, eqb-false}
 use Rattle.lists.proofs.All.{all-range, getD-all}
 use Rattle.adjacency.specs.inner.Side.{listOn, Within}
 use Rattle.adjacency.specs.inner.Portion.{member}
 use Rattle.short_lists.specs.inner.Check.{unless, mirror, listFits, sideFits, listMirrored, sideMirrored}
 use Rattle.short_lists.proofs.Loops.{passes, refused}
 use Rattle.short_lists.proofs.Offsets.{Rising, offsets-rising, offsets-within, offset-le}
-use Rattle.store_arrivals.specs.inner.Arrivals.{before, sidesAgree, Outcome, Decides, Word, Arrived, Done, WalkedIn, BothRise, Sides}
+use Rattle.store_arrivals.specs.inner.Arrivals.{before, sidesAgree, Outcome, Decides, Word, Arrived, Done, WalkedIn, BothRise, Sides, Ended}
 use Rattle.store_arrivals.proofs.Agreeing.{at-fits, member-at, agree}
 
 -- ---- the start
@@ -28,17 +30,18 @@ walked-none store side other at none next =
       entries = λ v j l b. absurd (omega (arith, none v l));
     }
 
--- The first n words of the offsets, copied to the cursors.
-pub copied-at : (store : List ℕ) (n other k : ℕ) (rest : List ℕ) → n ≤ k → other + k ≤ length store → (t : ℕ) → t < n
-    → getD (take n (take k (drop other store)) ++ rest) t 0 ≡ getD store (other + t) 0
-copied-at store n other k rest h r t l =
-    List·getD-append (take n (take k (drop other store))) rest 0 t (rw (length-take, length-take, length-drop) (omega arith))
+-- The first n offsets, copied to the cursors.
+pub copied-at : (store : List ℕ) (n other k : ℕ) {cursors : List ℕ} (rest : List ℕ) → cursors ≡ take n (take k (drop other store)) ++ rest
+    → k ≡ n → other + n ≤ length store → (t : ℕ) → t < n → getD cursors t 0 ≡ getD store (other + t) 0
+copied-at store n other k rest e q r t l =
+    ap (λ (c : List ℕ). getD c t 0) e
+    ∙ List·getD-append (take n (take k (drop other store))) rest 0 t (rw (length-take, length-take, length-drop) (omega arith))
     ∙ getD-take n (take k (drop other store)) t 0 l ∙ getD-take k (drop other store) t 0 (omega arith) ∙ getD-drop other store t 0
 
 -- The sides of a store whose offsets rise.
 pub rising-sides : {store : List ℕ} {n m side other : ℕ} → BothRise store n m side other
-    → {k : ℕ} → k ≡ m → Sides store n side other (take k (drop (other + n + 1) store))
-rising-sides {store} {n} {m} {side} {other} r {k} e =
+    → Sides store n side other (take (other + n + 1 + m - (other + n + 1)) (drop (other + n + 1) store))
+rising-sides {store} {n} {m} {side} {other} r =
     record {
       lists = offsets-within store n m side (r .room) (offsets-rising store n m side (r .room) (r .rises));
       others = offsets-within store n m other (r .other-room) up;
@@ -50,6 +53,9 @@ rising-sides {store} {n} {m} {side} {other} r {k} e =
   where
     up : Rising m n (λ (v : ℕ). getD store (other + v) 0)
     up = offsets-rising store n m other (r .other-room) (r .other-rises)
+
+    k : ℕ
+    k = other + n + 1 + m - (other + n + 1)
 
     long : length (take k (drop (other + n + 1) store)) ≡ k
     long = length-take-le k (drop (other + n + 1) store) (rw length-drop (omega (arith, r .other-room)))
@@ -142,6 +148,71 @@ module _ {store : List ℕ} {n side other : ℕ} {back cursors done : List ℕ} 
 
   pub sides-agree : 0 ≡ unless (sidesAgree store n side other)
   sides-agree = passes (agree store n side other fits mirrored other-fits)
+
+-- The tests of the cursors and of the entries, by the words that they read.
+module _ {store : List ℕ} {n m side other : ℕ} (r : BothRise store n m side other) where
+  abbrev offsets : List ℕ
+  offsets = take (side + n + 1 - side) (drop side store)
+
+  abbrev ends : List ℕ
+  ends = take (other + 1 + n - (other + 1)) (drop (other + 1) store)
+
+  pub offsets-long : length offsets ≡ suc n
+  offsets-long = length-take-le (side + n + 1 - side) (drop side store) (rw length-drop (omega (arith, r .room))) ∙ omega arith
+
+  offset-at : (v : ℕ) → v ≤ n → getD offsets v 0 ≡ getD store (side + v) 0
+  offset-at v l = getD-take (side + n + 1 - side) (drop side store) v 0 (omega arith) ∙ getD-drop side store v 0
+
+  pub offsets-small : (v : ℕ) → v < n → getD offsets v 0 ≤ 1048575
+  offsets-small v l =
+      omega (
+        arith,
+        offset-at v (omega arith),
+        offset-le store n m side (r .room) (offsets-rising store n m side (r .room) (r .rises)) v (omega arith),
+        r .countable,
+      )
+
+  ends-long : length ends ≡ n
+  ends-long = length-take-le (other + 1 + n - (other + 1)) (drop (other + 1) store) (rw length-drop (omega (arith, r .other-room))) ∙ omega arith
+
+  end-at : (t : ℕ) → t < n → getD ends t 0 ≡ getD store (other + t + 1) 0
+  end-at t l =
+      getD-take (other + 1 + n - (other + 1)) (drop (other + 1) store) t 0 (omega arith) ∙ getD-drop (other + 1) store t 0
+      ∙ ap (λ (k : ℕ). getD store k 0) (let e : other + 1 + t ≡ other + t + 1 = omega arith in e)
+
+  pub at-end : {cursors done : List ℕ} → ((t : ℕ) → t < length ends → getD cursors t 0 ≡ getD ends t 0)
+      → ((v : ℕ) → v < n → getD offsets (suc v) 0 ≤ getD offsets v 0 + getD done v 0) → Ended store n side other cursors done 0
+  at-end a b =
+      record {
+        cursors-end = λ z t l. a t (rw ends-long l) ∙ end-at t l;
+        all-done =
+            λ z v l.
+            omega (
+              arith,
+              b v l,
+              offset-at v (omega arith),
+              offset-at (suc v) l,
+              ap (λ (k : ℕ). getD store k 0) (let e : side + v + 1 ≡ side + suc v = omega arith in e),
+            );
+        else-undecided = λ h. absurd (h refl);
+      }
+
+pub not-ended : {store : List ℕ} {n side other : ℕ} {cursors done : List ℕ} → Ended store n side other cursors done 1
+not-ended = record { cursors-end = λ z. absurd (omega arith); all-done = λ z. absurd (omega arith); else-undecided = λ h. refl }
+
+-- The answer to the last tests.
+pub ended-decides : {store : List ℕ} {n side other : ℕ} {back cursors done : List ℕ} {next r : ℕ} → Sides store n side other back
+    → WalkedIn store n side other back cursors done next → Ended store n side other cursors done r → Decides r (sidesAgree store n side other)
+ended-decides {store} {n} {side} {other} {back} {cursors} {done} {next} {r} s w e one = go (eqb r 0) refl
+  where
+    go : (b : Bool) → eqb r 0 ≡ b → r ≡ unless (sidesAgree store n side other)
+    go true t =
+        let z : r ≡ 0 = eqb-true r 0 t in
+        z
+        ∙ sides-agree s w
+        (λ v l. omega (arith, list-long (s .lists v l), e .all-done z v l))
+        (e .cursors-end z)
+    go false t = absurd (one (e .else-undecided (eqb-false r 0 t)))
 
 -- An answer that is not 0 decides.
 pub outcome-decides : {r : ℕ} {b : Bool} {H : Type 0} → Outcome r b H → (r ≡ 0 → ⊥) → Decides r b

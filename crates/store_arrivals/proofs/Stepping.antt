@@ -4,7 +4,7 @@ use mathlib.Core.Bool.{Bool, false, _&&_}
 use mathlib.Core.List.{List}
 use Prim.Native.Nat.{ℕ, _+_, _*_, _/_, _≤_, _<_}
 use native.Mathlib.Omega.{arith}
-use lib.ListN.{length, getD, set}
+use lib.ListN.{length, getD, set, replicate, length-replicate, getD-replicate}
 use Rattle.adjacency.specs.inner.Side.{listOn}
 use Rattle.short_lists.specs.inner.Check.{listFits, listMirrored}
 use Rattle.store_arrivals.specs.inner.Arrivals.{sidesAgree, Refutes, Outcome, Matched, WalkedIn, Sides, Blocks, Tables, Labelled, StepFrom}
@@ -61,6 +61,18 @@ tables-kept {n} t a b c =
       done-fit = omega (arith, t .done-fit);
       sets-fit = subst (λ (k : ℕ). Blocks n k) (sym c) (t .sets-fit);
     }
+
+-- Tables as they are made.
+pub tables-made : {n : ℕ} (a b c : ℕ) → n ≤ a → n ≤ b → Blocks n c → Tables n (replicate a 0) (replicate b 0) (replicate c 0)
+tables-made {n} a b c h k s =
+    record {
+      cursors-fit = omega (arith, length-replicate {A = ℕ} a 0);
+      done-fit = omega (arith, length-replicate {A = ℕ} b 0);
+      sets-fit = subst (λ (j : ℕ). Blocks n j) (sym (length-replicate {A = ℕ} c 0)) s;
+    }
+
+pub none-done : {n : ℕ} (a : ℕ) → n ≤ a → (v : ℕ) → v < n → getD {A = ℕ} (replicate a 0) v 0 ≡ 0
+none-done a h v l = getD-replicate {A = ℕ} a v 0 0 (omega arith)
 
 -- The word of a vertex in a set.
 pub word-in : {n words v set : ℕ} → Blocks n words → v < n → set < 16 → v / 64 * 16 + set < words

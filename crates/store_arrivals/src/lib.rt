@@ -10,7 +10,7 @@ ghost use mathlib.Core.Path.{_≡_};
 ghost use Prim.Native.Nat.{ℕ, suc, _+_, _≤_, _<_};
 ghost use lib.ListN.{length, getD};
 ghost use Rattle.graph.specs.Graph.{maxGraphVertices, maxGraphEdges};
-ghost use Rattle.store_arrivals.specs.inner.Arrivals.{sidesAgree, Decides, BothRise, Tables};
+ghost use Rattle.store_arrivals.specs.inner.Arrivals.{sidesAgree, Decides, BothRise, Tables, Ended};
 
 // It is not known whether the sides agree.
 pub const UNDECIDED: u32 = 1;
@@ -74,6 +74,20 @@ fn vertices_left(starts: &[u32], done: &[u16], n: usize) -> u32
     sum
 }
 
+// 0 where every cursor stands at its end and every entry is done, else undecided.
+fn ends_fault(store: &[u32], n: usize, m: usize, side: usize, other: usize, cursors: &[u32], done: &[u16]) -> u32
+    requires { ⌜ BothRise (now store) n m side other × (n ≤ length (now cursors)) × (n ≤ length (now done)) ⌝ }
+    ensures { λ r. ⌜ Ended (now (store .entry)) n side other (now (cursors .entry)) (now (done .entry)) r ⌝ }
+{
+    if cursors_apart(cursors, &store[other + 1..other + 1 + n]) != 0 {
+        return UNDECIDED;
+    }
+    if vertices_left(&store[side..side + n + 1], done, n) != 0 {
+        return UNDECIDED;
+    }
+    0
+}
+
 // The walk, with tables in which no entry is done.
 fn walk_fault(
     store: &[u32],
@@ -89,20 +103,14 @@ fn walk_fault(
     requires { ⌜ ((v : ℕ) → v < n → getD (now done) v 0 ≡ 0) ⌝ }
     ensures { λ r. ⌜ Decides r (sidesAgree (now (store .entry)) n side other) ⌝ }
 {
+    words::copy(&store[other..other + n], n, cursors);
     let entries = other + n + 1;
-    words::copy(&store[other..entries], n, cursors);
     let back = &store[entries..entries + m];
     let fault = label_passes(store, n, side, other, back, cursors, done, sets);
     if fault != 0 {
         return fault;
     }
-    if cursors_apart(cursors, &store[other + 1..entries]) != 0 {
-        return UNDECIDED;
-    }
-    if vertices_left(&store[side..side + n + 1], done, n) != 0 {
-        return UNDECIDED;
-    }
-    0
+    ends_fault(store, n, m, side, other, cursors, done)
 }
 
 fn few_vertices_fault(store: &[u32], n: usize, m: usize, side: usize, other: usize) -> u32

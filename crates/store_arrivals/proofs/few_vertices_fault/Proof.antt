@@ -1,27 +1,25 @@
+-- `store_arrivals::few_vertices_fault` meets its contract: its tables are large enough. Assumes nothing.
+use mathlib.Core.Path.{refl}
+use native.Mathlib.Omega.{arith}
+use Rattle.store_arrivals.proofs.Stepping.{tables-made, none-done}
 use borrow.Author.Needs.{needs}
 use Rattle.store_arrivals.proofs.few_vertices_fault.Statement.{statement}
 use Rattle.store_arrivals.proofs.few_vertices_fault.Tie as tie
-use Rattle.store_arrivals.proofs.few_vertices_fault.Reads as reads
-use Rattle.store_arrivals.proofs.few_vertices_fault.Lts as lts
-use Rattle.store_arrivals.proofs.walk_fault.Reads as walk-fault-reads
 
--- src/lib.rt:121:9
 slice-aggregate-walk-fault : tie.Need-slice-aggregate-walk-fault
 slice-aggregate-walk-fault c = search needs
 
--- src/lib.rt:122:9
 slice-aggregate-walk-fault-2 : tie.Need-slice-aggregate-walk-fault-2
 slice-aggregate-walk-fault-2 c = search needs
 
--- src/lib.rt:123:9
 slice-aggregate-walk-fault-3 : tie.Need-slice-aggregate-walk-fault-3
 slice-aggregate-walk-fault-3 c = search needs
 
--- src/lib.rt:115:5
 walk-fault-requires : tie.Need-walk-fault-requires
-walk-fault-requires c κs = ?
+walk-fault-requires c κs =
+    let h = c .before .before .before .before .pre in
+    ((h .0, tables-made 1024 1024 256 (h .1) (h .1) (record { blocks = 16; long = refl; fit = omega (arith, h .1) })), none-done 1024 (h .1))
 
--- src/lib.rt:108:1
 returns : tie.Need-returns
 returns c = search needs
 

@@ -140,3 +140,9 @@ pub record StepFrom (store : List ℕ) (n side other : ℕ) (back : List ℕ) (b
 pub record Stepped (store : List ℕ) (n side other : ℕ) (back : List ℕ) (base v : ℕ) (cursors done : List ℕ) (fault label : ℕ) : Type 0 where
   pub outcome : Outcome fault (sidesAgree store n side other) (WalkedIn store n side other back cursors done (base + v + 1))
   pub narrow : label < 256
+
+-- An answer of 0 says that every cursor stands where its list ends, and that as many entries of each vertex are done as it has.
+pub record Ended (store : List ℕ) (n side other : ℕ) (cursors done : List ℕ) (r : ℕ) : Type 0 where
+  pub cursors-end : r ≡ 0 → (t : ℕ) → t < n → getD cursors t 0 ≡ getD store (other + t + 1) 0
+  pub all-done : r ≡ 0 → (v : ℕ) → v < n → getD store (side + v + 1) 0 ≤ getD store (side + v) 0 + getD done v 0
+  pub else-undecided : (r ≡ 0 → ⊥) → r ≡ 1
