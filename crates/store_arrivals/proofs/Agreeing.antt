@@ -122,3 +122,12 @@ module _ (store : List ℕ) (n side other : ℕ) where
   pub agree : sideFits store n side ≡ true → sideMirrored store n side other ≡ true → sideFits store n other ≡ true → sidesAgree store n side other ≡ true
   unfolding sidesAgree
   agree a b c = and-both (sideFits store n side) (sideMirrored store n side other && sideFits store n other) a (and-both (sideMirrored store n side other) (sideFits store n other) b c)
+
+  pub agreed : sidesAgree store n side other ≡ true → (sideFits store n side ≡ true) × (sideMirrored store n side other ≡ true) × (sideFits store n other ≡ true)
+  unfolding sidesAgree
+  agreed t =
+      let u : (sideMirrored store n side other && sideFits store n other) ≡ true = and-r (sideFits store n side) (sideMirrored store n side other && sideFits store n other) t in (
+        and-l (sideFits store n side) (sideMirrored store n side other && sideFits store n other) t,
+        and-l (sideMirrored store n side other) (sideFits store n other) u,
+        and-r (sideMirrored store n side other) (sideFits store n other) u,
+      )
