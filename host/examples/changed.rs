@@ -2,8 +2,12 @@
 //! p.bin if there is one, else by a drawn one.
 //!
 //!     cargo run --release --example changed -- ../examples/truss-swap
-use std::path::PathBuf;
-use trace::{Buffers, Cache, Refusal, Store};
+mod folder;
+
+use folder::{ended, Folder};
+use rizhavaan::{Buffers, Cache, Refusal, Store};
+use std::error::Error;
+use std::process::ExitCode;
 
 fn print(when: &str, store: &Store, query: &[u8], plan: Option<&[u8]>) -> Result<(), Refusal> {
     let mut buffers = Buffers::new();
@@ -19,14 +23,17 @@ fn print(when: &str, store: &Store, query: &[u8], plan: Option<&[u8]>) -> Result
     Ok(())
 }
 
-fn main() -> Result<(), Box<dyn std::error::Error>> {
-    let folder = PathBuf::from(std::env::args().nth(1).ok_or("usage: changed FOLDER")?);
-    let read = |name: &str| std::fs::read(folder.join(name));
-    let (query, plan) = (read("q.bin")?, read("p.bin").ok());
+fn show() -> Result<(), Box<dyn Error>> {
+    let folder = Folder::named("changed FOLDER")?;
+    let (query, plan) = (folder.read("q.bin")?, folder.read_if_there("p.bin")?);
 
-    let store = Store::load(&read("g.bin")?)?;
-    let changed = store.changed(&read("c.bin")?)?;
+    let store = Store::load(&folder.read("g.bin")?)?;
+    let changed = store.changed(&folder.read("c.bin")?)?;
     print("before", &store, &query, plan.as_deref())?;
     print("after", &changed, &query, plan.as_deref())?;
     Ok(())
+}
+
+fn main() -> ExitCode {
+    ended(show())
 }

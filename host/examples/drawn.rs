@@ -1,23 +1,32 @@
-//! Runs a pattern without a plan: draws one for the files g.bin and q.bin of a folder, and prints its bytes and the matches.
+//! Runs a pattern without a plan: draws one for the files g.bin and q.bin of a folder, and prints it in words and the matches.
 //!
 //!     cargo run --release --example drawn -- ../examples/triangle
-use std::path::PathBuf;
-use trace::{Buffers, Cache, Store};
+mod folder;
 
-fn main() -> Result<(), Box<dyn std::error::Error>> {
-    let folder = PathBuf::from(std::env::args().nth(1).ok_or("usage: drawn FOLDER")?);
-    let store = Store::load(&std::fs::read(folder.join("g.bin"))?)?;
-    let query = std::fs::read(folder.join("q.bin"))?;
+use folder::{ended, Folder};
+use rizhavaan::{operators, Buffers, Cache, Store};
+use std::error::Error;
+use std::process::ExitCode;
 
-    let plan: Vec<String> = store.draw_plan(&query)?.iter().map(|byte| format!("{byte:02x}")).collect();
-    println!("plan {}", plan.join(" "));
+fn show() -> Result<(), Box<dyn Error>> {
+    let folder = Folder::named("drawn FOLDER")?;
+    let store = Store::load(&folder.read("g.bin")?)?;
+    let query = folder.read("q.bin")?;
+
+    let plan = store.draw_plan(&query)?;
+    let words: Vec<String> = operators(&query, &plan)?.map(|operator| operator.to_string()).collect();
+    println!("plan {}", words.join(", "));
 
     let mut buffers = Buffers::new();
-    let matches = store.run_drawn(&query, Cache::On, &mut buffers)?;
+    let matches = store.run_growing(&query, &plan, Cache::On, &mut buffers)?;
     println!("matches {} cost {}", matches.len(), matches.cost);
     for row in matches.rows() {
         let row: Vec<String> = row.iter().map(u32::to_string).collect();
         println!("{}", row.join(" "));
     }
     Ok(())
+}
+
+fn main() -> ExitCode {
+    ended(show())
 }

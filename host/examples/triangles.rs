@@ -1,7 +1,7 @@
 //! Lists the triangles of a wheel: a hub with an edge to every rim vertex, and the rim's edges in a ring.
 //!
 //!     cargo run --release --example triangles -- 1000
-use trace::{Buffers, Cache, Store};
+use rizhavaan::{Buffers, Cache, Store};
 
 /// Numbers as bit-packed fields, most significant bit first.
 #[derive(Default)]
@@ -52,7 +52,7 @@ fn main() -> Result<(), Box<dyn std::error::Error>> {
         0xff, 0x82, 0x02, 0x10, 0x09, 0x40, 0x20,
     ];
     let plan = [0x10, 0x05, 0x00];
-    println!("the plan has {} operators", trace::check_plan(&query, &plan)?);
+    println!("the plan has {} operators", rizhavaan::check_plan(&query, &plan)?);
 
     let mut buffers = Buffers::new();
     let matches = store.run_growing(&query, &plan, Cache::On, &mut buffers)?;
@@ -68,6 +68,6 @@ fn main() -> Result<(), Box<dyn std::error::Error>> {
     }
 
     // A plan cut short is refused, with a reason.
-    println!("{}", trace::check_plan(&query, &plan[..1]).unwrap_err());
+    println!("{}", rizhavaan::check_plan(&query, &plan[..1]).unwrap_err());
     Ok(())
 }

@@ -3,9 +3,13 @@
 //!
 //!     cargo run --release --example work -- ../examples/bowtie-bushy-join
 //!
-//! The folder has the three packed files of a hang, `g.bin`, `q.bin` and `p.bin`; `tools/pack` writes them.
-use std::path::Path;
-use trace::{Buffers, Cache, Matches, Store};
+//! The folder has the packed files of a hang, `g.bin`, `q.bin` and `p.bin`; `tools/pack` writes them. Without `p.bin` a plan is drawn.
+mod folder;
+
+use folder::{ended, Folder};
+use rizhavaan::{Buffers, Cache, Matches, Store};
+use std::error::Error;
+use std::process::ExitCode;
 
 const WIDTH: u64 = 24;
 
@@ -30,12 +34,18 @@ fn print(matches: &Matches) {
     }
 }
 
-fn main() -> Result<(), Box<dyn std::error::Error>> {
-    let folder = std::env::args().nth(1).unwrap_or("../examples/bowtie-bushy-join".into());
-    let read = |name| std::fs::read(Path::new(&folder).join(name));
-    let (graph, query, plan) = (read("g.bin")?, read("q.bin")?, read("p.bin")?);
+fn show() -> Result<(), Box<dyn Error>> {
+    let folder = Folder::named("work FOLDER")?;
+    let (graph, query, plan) = (folder.read("g.bin")?, folder.read("q.bin")?, folder.read_if_there("p.bin")?);
     let store = Store::load(&graph)?;
     let mut buffers = Buffers::new();
-    print(&store.run_growing(&query, &plan, Cache::On, &mut buffers)?);
+    match plan {
+        Some(plan) => print(&store.run_growing(&query, &plan, Cache::On, &mut buffers)?),
+        None => print(&store.run_drawn(&query, Cache::On, &mut buffers)?),
+    }
     Ok(())
+}
+
+fn main() -> ExitCode {
+    ended(show())
 }

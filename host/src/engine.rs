@@ -65,7 +65,7 @@ pub fn load_into(file: &[u8], store: &mut [u32]) -> Result<Loaded, Refusal> {
     let (mut vertices, mut edges) = (0, 0);
     // SAFETY: each pointer and length are those of one slice, and the numbers are locals. The store is borrowed alone.
     let number = unsafe {
-        sys::trace_load(file.as_ptr(), file.len(), store.as_mut_ptr(), store.len(), &mut vertices, &mut edges)
+        sys::rizhavaan_load(file.as_ptr(), file.len(), store.as_mut_ptr(), store.len(), &mut vertices, &mut edges)
     };
     accepted(number)?;
     Ok(Loaded { vertices: size(vertices), edges: size(edges) })
@@ -80,7 +80,7 @@ pub fn apply_changes_into(old: &[u32], changes: &[u8], store: &mut [u32]) -> Res
     let (mut vertices, mut edges) = (0, 0);
     // SAFETY: each pointer and length are those of one slice, and the numbers are locals. The new store is borrowed alone.
     let number = unsafe {
-        sys::trace_apply_changes(
+        sys::rizhavaan_apply_changes(
             old.as_ptr(),
             old.len(),
             changes.as_ptr(),
@@ -100,7 +100,7 @@ pub fn check_plan(query: &[u8], plan: &[u8]) -> Result<usize, Refusal> {
     let mut operators = 0;
     // SAFETY: each pointer and length are those of one slice, and the number is a local.
     let number =
-        unsafe { sys::trace_check_plan(query.as_ptr(), query.len(), plan.as_ptr(), plan.len(), &mut operators) };
+        unsafe { sys::rizhavaan_check_plan(query.as_ptr(), query.len(), plan.as_ptr(), plan.len(), &mut operators) };
     accepted(number)?;
     Ok(size(operators))
 }
@@ -113,7 +113,7 @@ pub fn draw_plan_into(store: &[u32], query: &[u8], plan: &mut [u8]) -> Result<us
     let mut bytes = 0;
     // SAFETY: each pointer and length are those of one slice, and the number is a local. The plan is borrowed alone.
     let number = unsafe {
-        sys::trace_draw_plan(
+        sys::rizhavaan_draw_plan(
             store.as_ptr(),
             store.len(),
             query.as_ptr(),
@@ -146,7 +146,7 @@ pub fn run(
     // SAFETY: each pointer and length are those of one slice, and the numbers are locals. Scratch, list and records are borrowed
     // alone.
     let number = unsafe {
-        sys::trace_run(
+        sys::rizhavaan_run(
             store.as_ptr(),
             store.len(),
             query.as_ptr(),

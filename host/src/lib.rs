@@ -7,7 +7,7 @@
 //! turn the answer into a [`Result`].
 //!
 //! ```
-//! use trace::{Buffers, Cache, Store};
+//! use rizhavaan::{Buffers, Cache, Store};
 //!
 //! // Four vertices without label or day; edges of label 1: 0→1, 0→2, 1→2, 1→3, 2→3.
 //! let graph = [
@@ -41,7 +41,7 @@
 //! let changed = store.changed(&[0x00, 0x00, 0x10, 0x00, 0x08, 0x08, 0x00, 0x10])?;
 //! assert_eq!((store.edges(), changed.edges()), (5, 4));
 //! assert_eq!(changed.run_growing(&query, &plan, Cache::On, &mut buffers)?.len(), 0);
-//! # Ok::<(), trace::Refusal>(())
+//! # Ok::<(), rizhavaan::Refusal>(())
 //! ```
 //!
 //! # Buffers
@@ -67,7 +67,7 @@ pub use engine::{
     apply_changes_into, check_plan, draw_plan_into, load_into, run, Cache, Loaded, Run, MAX_DRAWN_BYTES, MAX_OPERATORS,
     MAX_WORDS,
 };
-pub use operator::{Operator, Work};
+pub use operator::{operators, Operator, Work};
 pub use refusal::Refusal;
 pub use store::{Buffers, Matches, Store};
 pub use sys::Record;

@@ -1,5 +1,5 @@
 //! The operators of a plan file, and the work that each did in a run.
-use crate::Record;
+use crate::{check_plan, Record, Refusal};
 use std::fmt;
 
 /// An operator of a plan.
@@ -38,6 +38,12 @@ impl Work {
     pub(crate) fn new(operator: Operator, record: Record) -> Work {
         Work { operator, rows: record.rows, cost: record.cost }
     }
+}
+
+/// The operators of a plan in its order, where [`check_plan`] accepts it.
+pub fn operators<'p>(query: &[u8], plan: &'p [u8]) -> Result<impl Iterator<Item = Operator> + Clone + 'p, Refusal> {
+    check_plan(query, plan)?;
+    Ok(Operators::of(plan))
 }
 
 /// The operators of an accepted plan file, which begins with their number in 5 bits.

@@ -1,8 +1,8 @@
-//! The functions of the static library, as `trace.h` gives them.
+//! The functions of the static library, as `rizhavaan.h` gives them.
 //!
 //! Nothing checks these lines against the Rattle source but the tests. Callers want the safe functions of the crate's root.
 
-/// What a run records of one operator. It is laid out as `struct trace_record` of `trace.h`.
+/// What a run records of one operator. It is laid out as `struct rizhavaan_record` of `rizhavaan.h`.
 #[repr(C)]
 #[derive(Clone, Copy, Debug, Default, PartialEq, Eq)]
 pub struct Record {
@@ -13,12 +13,12 @@ pub struct Record {
 }
 
 extern "C" {
-    /// Load. See `trace.h`.
+    /// Load. See `rizhavaan.h`.
     ///
     /// # Safety
     /// Each pointer is aligned, not null, and points to as many bytes, words or records as the length after it says, a pointer
     /// with no length to one number. What is written overlaps nothing else that is passed.
-    pub fn trace_load(
+    pub fn rizhavaan_load(
         file: *const u8,
         file_len: usize,
         store: *mut u32,
@@ -27,11 +27,11 @@ extern "C" {
         edges: *mut u64,
     ) -> u32;
 
-    /// Apply changes. See `trace.h`.
+    /// Apply changes. See `rizhavaan.h`.
     ///
     /// # Safety
-    /// As for [`trace_load`].
-    pub fn trace_apply_changes(
+    /// As for [`rizhavaan_load`].
+    pub fn rizhavaan_apply_changes(
         old: *const u32,
         old_len: usize,
         changes: *const u8,
@@ -42,11 +42,11 @@ extern "C" {
         edges: *mut u64,
     ) -> u32;
 
-    /// Check plan. See `trace.h`.
+    /// Check plan. See `rizhavaan.h`.
     ///
     /// # Safety
-    /// As for [`trace_load`].
-    pub fn trace_check_plan(
+    /// As for [`rizhavaan_load`].
+    pub fn rizhavaan_check_plan(
         query: *const u8,
         query_len: usize,
         plan: *const u8,
@@ -54,11 +54,11 @@ extern "C" {
         operators: *mut u64,
     ) -> u32;
 
-    /// Draw plan. See `trace.h`.
+    /// Draw plan. See `rizhavaan.h`.
     ///
     /// # Safety
-    /// As for [`trace_load`].
-    pub fn trace_draw_plan(
+    /// As for [`rizhavaan_load`].
+    pub fn rizhavaan_draw_plan(
         store: *const u32,
         store_len: usize,
         query: *const u8,
@@ -68,11 +68,11 @@ extern "C" {
         bytes: *mut u64,
     ) -> u32;
 
-    /// Run. See `trace.h`.
+    /// Run. See `rizhavaan.h`.
     ///
     /// # Safety
-    /// As for [`trace_load`].
-    pub fn trace_run(
+    /// As for [`rizhavaan_load`].
+    pub fn rizhavaan_run(
         store: *const u32,
         store_len: usize,
         query: *const u8,

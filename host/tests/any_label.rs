@@ -131,7 +131,7 @@ fn compare(seeds: std::ops::Range<u64>, twins: impl Fn(Graph, Query) -> [(Graph,
         let cost = one.cost;
         let pairs = || one.records.iter().zip(&two.records);
         assert!(pairs().all(|(a, b)| a.cost <= b.cost), "{other_graph:?} {other_query:?} {other_plan:?}");
-        let records = pairs().map(|(a, b)| trace::Record { cost: b.cost, ..*a }).collect();
+        let records = pairs().map(|(a, b)| rizhavaan::Record { cost: b.cost, ..*a }).collect();
         assert_eq!(two, Ran { cost: two.cost, records, ..one }, "{other_graph:?} {other_query:?} {other_plan:?}");
         assert!(two.cost >= cost, "{other_graph:?} {other_query:?} {other_plan:?}: {} and {cost}", two.cost);
     });

@@ -6,8 +6,8 @@ use judge::changes::{self, add, take, Change};
 use judge::graph::{Edge, Graph};
 use judge::query::Query;
 use judge::random::{each, Random};
+use rizhavaan::{Refusal, Store};
 use std::collections::BTreeSet;
-use trace::{Refusal, Store};
 
 /// Applies a change file into a new store of so many arbitrary words, and compares answer and words, also with those that Load leaves
 /// for the edited graph's file; answers the refusal.
@@ -377,11 +377,11 @@ fn wrapper() {
         assert_eq!(Store::from_words(words).changed(&file(&[])), Err(Refusal::StoreDamaged));
     }
     let mut words = [7; 20];
-    let counts = trace::Loaded { vertices: 3, edges: 1 };
-    assert_eq!(trace::apply_changes_into(store.words(), &file(&[take((1, 1, 2))]), &mut words), Ok(counts));
+    let counts = rizhavaan::Loaded { vertices: 3, edges: 1 };
+    assert_eq!(rizhavaan::apply_changes_into(store.words(), &file(&[take((1, 1, 2))]), &mut words), Ok(counts));
     assert_eq!(words[18..], [7; 2]);
     assert_eq!(words[..18], Graph::new(vec![0; 3], vec![(0, 1, 1)]).store());
     let mut short = [7; 17];
-    let refused = trace::apply_changes_into(store.words(), &file(&[take((1, 1, 2))]), &mut short);
+    let refused = rizhavaan::apply_changes_into(store.words(), &file(&[take((1, 1, 2))]), &mut short);
     assert_eq!((refused, short), (Err(Refusal::StoreSmall), [7; 17]));
 }

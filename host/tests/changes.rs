@@ -11,8 +11,8 @@ use judge::query::Query;
 use judge::random::each;
 use judge::rules;
 use judge::worked::{g, graph, triangle};
+use rizhavaan::{Buffers, Cache, Store};
 use std::path::Path;
-use trace::{Buffers, Cache, Store};
 use Operator::{Extend, Scan};
 
 /// Bytes of bits, with blanks between fields.

@@ -11,9 +11,9 @@ use judge::query::{Days, Query, EVER};
 use judge::random::{each, Random};
 use judge::rules;
 use judge::worked::{doubled, g, graph, triangle};
+use rizhavaan::{Buffers, Cache, Refusal, Store};
 use std::collections::BTreeSet;
 use std::path::Path;
-use trace::{Buffers, Cache, Refusal, Store};
 use Operator::{Extend, Join, Scan};
 
 /// G with a day for each vertex.
@@ -288,14 +288,14 @@ fn a_first_day_above_the_last() {
     let days = |days: [Days; 3]| triangle().inspected(&days).file();
     let store = Store::load(&dated().file()).unwrap();
     let refused = days([EVER, (9, 9), (6, 5)]);
-    assert_eq!(trace::check_plan(&refused, &[]), Err(Refusal::QueryDays));
+    assert_eq!(rizhavaan::check_plan(&refused, &[]), Err(Refusal::QueryDays));
     assert_eq!(store.draw_plan(&refused), Err(Refusal::QueryDays));
     let damaged = Store::from_words(vec![1; 8]);
     let mut buffers = Buffers::new();
     assert_eq!(damaged.run_growing(&refused, &[], Cache::On, &mut buffers), Err(Refusal::QueryDays));
     assert_eq!(damaged.run_drawn(&refused, Cache::On, &mut buffers), Err(Refusal::QueryDays));
     let accepted = days([EVER, (9, 9), (6, 6)]);
-    assert_eq!(trace::check_plan(&accepted, &[]), Err(Refusal::PlanShort));
+    assert_eq!(rizhavaan::check_plan(&accepted, &[]), Err(Refusal::PlanShort));
     assert_eq!(store.draw_plan(&accepted).map(|plan| plan.len()), Ok(3));
 }
 

@@ -9,7 +9,7 @@ use judge::plan::{self, Operator};
 use judge::query::{Query, QueryEdge};
 use judge::random::{each, Random};
 use judge::worked::{diamond, g, graph, triangle};
-use trace::{Buffers, Cache, Refusal, Store};
+use rizhavaan::{Buffers, Cache, Refusal, Store};
 use Operator::{Extend, Scan};
 
 /// Compares what is drawn in so many bytes; answers the refusal.
@@ -186,17 +186,17 @@ fn worked_plans() {
 fn wrapper() {
     let (store, query) = (Store::load(&g().file()).unwrap(), triangle().file());
     let mut bytes = [7; 5];
-    assert_eq!(trace::draw_plan_into(store.words(), &query, &mut bytes), Ok(3));
+    assert_eq!(rizhavaan::draw_plan_into(store.words(), &query, &mut bytes), Ok(3));
     assert_eq!(bytes, [0x10, 0x05, 0x00, 7, 7]);
     let mut short = [7; 2];
-    assert_eq!(trace::draw_plan_into(store.words(), &query, &mut short), Err(Refusal::PlanBytes));
+    assert_eq!(rizhavaan::draw_plan_into(store.words(), &query, &mut short), Err(Refusal::PlanBytes));
     assert_eq!(short, [7; 2]);
     assert_eq!(store.draw_plan(&query[..1]), Err(Refusal::QueryShort));
     let damaged = Store::from_words(vec![1; 8]);
     assert_eq!(damaged.draw_plan(&query), Err(Refusal::StoreDamaged));
     assert_eq!(damaged.run_drawn(&query, Cache::On, &mut Buffers::new()), Err(Refusal::StoreDamaged));
     let longest = Query::any(8, &[(0, 1), (0, 2), (0, 3), (0, 4), (0, 5), (0, 6), (0, 7)]).file();
-    assert_eq!(store.draw_plan(&longest).map(|plan| plan.len()), Ok(trace::MAX_DRAWN_BYTES));
+    assert_eq!(store.draw_plan(&longest).map(|plan| plan.len()), Ok(rizhavaan::MAX_DRAWN_BYTES));
     let plan = store.draw_plan(&query).unwrap();
     let input = Input { store: store.words(), query: &query, plan: &plan, cache: true };
     each(0..1, |r| assert_eq!(calls::run(r, &input, 32, 6).list, [0, 1, 2, 1, 2, 3]));

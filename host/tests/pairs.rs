@@ -10,8 +10,8 @@ use judge::query::{random_pairs, Pair, Query};
 use judge::random::{each, Random};
 use judge::rules;
 use judge::worked::{g, graph, triangle};
+use rizhavaan::{Buffers, Cache, Refusal, Store};
 use std::path::Path;
-use trace::{Buffers, Cache, Refusal, Store};
 use Operator::{Extend, Join, Scan};
 
 /// Unlabelled, with edges of label 1 both ways.
@@ -272,13 +272,13 @@ fn a_faulty_pair() {
     let mut buffers = Buffers::new();
     for pairs in [&[(1, 1)][..], &[(0, 3)], &[(0, 1), (0, 1)], &[(1, 2), (0, 1)]] {
         let refused = triangle().paired(pairs).file();
-        assert_eq!(trace::check_plan(&refused, &[]), Err(Refusal::QueryPair));
+        assert_eq!(rizhavaan::check_plan(&refused, &[]), Err(Refusal::QueryPair));
         assert_eq!(store.draw_plan(&refused), Err(Refusal::QueryPair));
         assert_eq!(damaged.run_growing(&refused, &[], Cache::On, &mut buffers), Err(Refusal::QueryPair));
         assert_eq!(damaged.run_drawn(&refused, Cache::On, &mut buffers), Err(Refusal::QueryPair));
     }
     let contradiction = triangle().paired(&[(0, 1), (1, 0)]).file();
-    assert_eq!(trace::check_plan(&contradiction, &[]), Err(Refusal::PlanShort));
+    assert_eq!(rizhavaan::check_plan(&contradiction, &[]), Err(Refusal::PlanShort));
     // A drawn plan is the same with pairs.
     assert_eq!(store.draw_plan(&contradiction), store.draw_plan(&triangle().file()));
     assert_eq!(store.run_drawn(&contradiction, Cache::On, &mut buffers).map(|matches| matches.len()), Ok(0));

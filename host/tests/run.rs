@@ -210,16 +210,17 @@ fn lengths_past_the_counted_one() {
     let graph = Graph::new(vec![0; 4], vec![(0, 1, 1), (0, 1, 2), (1, 1, 2), (1, 1, 3), (2, 1, 3)]);
     let query = Query::plain(3, &[(0, 1), (0, 2), (1, 2)]);
     let plan = plan::file(&[plan::Operator::Scan(0), plan::Operator::Extend(2)]);
-    let mut scratch = vec![0; trace::MAX_WORDS + 8];
-    let mut list = vec![0; trace::MAX_WORDS + 8];
+    let mut scratch = vec![0; rizhavaan::MAX_WORDS + 8];
+    let mut list = vec![0; rizhavaan::MAX_WORDS + 8];
     scratch[5] = 7;
-    scratch[trace::MAX_WORDS..].fill(9);
+    scratch[rizhavaan::MAX_WORDS..].fill(9);
     list[6..12].fill(8);
-    let records = &mut [trace::Record::default(); 2];
+    let records = &mut [rizhavaan::Record::default(); 2];
     let answer =
-        trace::run(&graph.store(), &query.file(), &plan, trace::Cache::On, &mut scratch, &mut list, records).unwrap();
+        rizhavaan::run(&graph.store(), &query.file(), &plan, rizhavaan::Cache::On, &mut scratch, &mut list, records)
+            .unwrap();
     assert_eq!((answer.rows, answer.cost), (2, 13));
-    assert!(scratch[..trace::MAX_WORDS].iter().all(|&word| word == 0));
-    assert!(scratch[trace::MAX_WORDS..].iter().all(|&word| word == 9));
+    assert!(scratch[..rizhavaan::MAX_WORDS].iter().all(|&word| word == 0));
+    assert!(scratch[rizhavaan::MAX_WORDS..].iter().all(|&word| word == 9));
     assert_eq!(list[..12], [0, 1, 2, 1, 2, 3, 8, 8, 8, 8, 8, 8]);
 }

@@ -5,7 +5,7 @@ use judge::graph::Graph;
 use judge::plan::{self, Operator};
 use judge::query::Query;
 use judge::worked::{diamond, doubled, g, graph, k, triangle};
-use trace::{Buffers, Cache, Record, Refusal, Store, Work};
+use rizhavaan::{Buffers, Cache, Record, Refusal, Store, Work};
 use Operator::{Extend, Join, Scan};
 
 /// Rows, cost, build rows, probe rows.
@@ -84,10 +84,10 @@ fn the_worked_lengths() {
         assert_eq!(run(cache, need), Ok(1));
         assert_eq!(run(cache, need - 1), Err(Refusal::ScratchSmall));
     }
-    assert_eq!(trace::load_into(&g().file(), &mut [0; 30]), Ok(trace::Loaded { vertices: 4, edges: 5 }));
-    assert_eq!(trace::load_into(&g().file(), &mut [0; 29]), Err(Refusal::StoreSmall));
-    assert_eq!(trace::check_plan(&query, &plan), Ok(2));
-    assert_eq!(trace::check_plan(&query, &plan[..2]), Err(Refusal::PlanShort));
+    assert_eq!(rizhavaan::load_into(&g().file(), &mut [0; 30]), Ok(rizhavaan::Loaded { vertices: 4, edges: 5 }));
+    assert_eq!(rizhavaan::load_into(&g().file(), &mut [0; 29]), Err(Refusal::StoreSmall));
+    assert_eq!(rizhavaan::check_plan(&query, &plan), Ok(2));
+    assert_eq!(rizhavaan::check_plan(&query, &plan[..2]), Err(Refusal::PlanShort));
 }
 
 const MARK: Record = Record { rows: 7, cost: 9 };
@@ -100,11 +100,13 @@ fn the_work_of_each_operator() {
     let mut records = [MARK; 7];
     let (query, scratch, list) = (diamond().file(), &mut [0; 22], &mut [0; 4]);
     let matches = store.run(&query, &bushy, Cache::Off, scratch, list, &mut records).unwrap();
-    let (scan, extend) = (trace::Operator::Scan, trace::Operator::Extend);
+    let (scan, extend) = (rizhavaan::Operator::Scan, rizhavaan::Operator::Extend);
     let want =
-        [(scan(2), 5, 0), (extend(0), 2, 13), (scan(2), 5, 0), (extend(3), 2, 13), (trace::Operator::Join, 1, 0)];
+        [(scan(2), 5, 0), (extend(0), 2, 13), (scan(2), 5, 0), (extend(3), 2, 13), (rizhavaan::Operator::Join, 1, 0)];
     let work = |(operator, rows, cost)| Work { operator, rows, cost };
     assert!(matches.work().eq(want.map(work)));
+    assert!(rizhavaan::operators(&query, &bushy).unwrap().eq(want.map(|(operator, _, _)| operator)));
+    assert_eq!(rizhavaan::operators(&query, &bushy[..1]).err(), Some(Refusal::PlanShort));
     assert_eq!(matches.work().map(|work| work.cost).sum::<u64>(), matches.cost);
     assert_eq!(records[5..], [MARK; 2]);
 
@@ -119,7 +121,7 @@ fn the_work_of_each_operator() {
     assert_eq!(costs(Cache::On), [(7, 0), (3, 24), (2, 4)]);
 }
 
-/// A record is laid out as `struct trace_record` is in C, two numbers of 8 bytes, the rows first. That the library reads it so, every
+/// A record is laid out as `struct rizhavaan_record` is in C, two numbers of 8 bytes, the rows first. That the library reads it so, every
 /// test of a run shows; `c/triangles.c` holds the header to the same.
 #[test]
 fn the_layout_of_a_record() {
@@ -127,7 +129,7 @@ fn the_layout_of_a_record() {
     assert_eq!((std::mem::offset_of!(Record, rows), std::mem::offset_of!(Record, cost)), (0, 8));
     let mut records = [MARK; 3];
     let (store, query, plan) = (g().store(), triangle().file(), plan::file(&[Scan(0), Extend(2)]));
-    trace::run(&store, &query, &plan, Cache::On, &mut [0; 17], &mut [0; 6], &mut records).unwrap();
+    rizhavaan::run(&store, &query, &plan, Cache::On, &mut [0; 17], &mut [0; 6], &mut records).unwrap();
     assert_eq!(records, [Record { rows: 5, cost: 0 }, Record { rows: 2, cost: 13 }, MARK]);
 }
 

@@ -39,7 +39,7 @@ pub fn counts(parts: usize) -> std::io::Result<Counts> {
         return Ok(counts);
     }
     eprintln!("instructions");
-    let folder = std::env::temp_dir().join(format!("trace-bench-{}", std::process::id()));
+    let folder = std::env::temp_dir().join(format!("rizhavaan-bench-{}", std::process::id()));
     std::fs::create_dir_all(&folder)?;
     let children = (0..parts).map(|part| start(&folder, part, parts)).collect::<std::io::Result<Vec<_>>>()?;
     for (part, child) in children.into_iter().enumerate() {

@@ -52,7 +52,7 @@ impl Program {
 
 /// SQLite's file.
 fn file() -> std::path::PathBuf {
-    std::env::temp_dir().join(format!("trace-bench-{}.db", std::process::id()))
+    std::env::temp_dir().join(format!("rizhavaan-bench-{}.db", std::process::id()))
 }
 
 /// The tables of a graph in a program.

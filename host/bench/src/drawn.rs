@@ -2,7 +2,7 @@
 use crate::cases::Case;
 use crate::measure::{race, seconds, Rounds, Times};
 use crate::rows::{engine, Bench, MOST};
-use trace::Record;
+use rizhavaan::Record;
 
 pub struct Drawn {
     pub pattern: String,
@@ -18,11 +18,11 @@ pub struct Drawn {
 pub fn row(rounds: Rounds, bench: &Bench, case: &Case) -> Drawn {
     eprintln!("  orderings of {}", case.name);
     let (store, query) = (&bench.store[..], case.query());
-    let mut plan = [0; trace::MAX_DRAWN_BYTES];
-    let bytes = trace::draw_plan_into(store, &query, &mut plan).expect("a plan is drawn");
+    let mut plan = [0; rizhavaan::MAX_DRAWN_BYTES];
+    let bytes = rizhavaan::draw_plan_into(store, &query, &mut plan).expect("a plan is drawn");
     let plan = &plan[..bytes];
     let (mut scratch, mut list) = (vec![0; MOST], vec![0; MOST]);
-    let mut records = [Record::default(); trace::MAX_OPERATORS];
+    let mut records = [Record::default(); rizhavaan::MAX_OPERATORS];
     // Words that no run has used yet take longer, so the first lot of runs is not looked at.
     let mut run = |plan: &[u8], words: usize| {
         let scratch = &mut scratch[..words];

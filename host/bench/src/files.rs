@@ -1,5 +1,5 @@
 //! The packed files, read by plain Rust: what both plain versions share.
-use trace::Record;
+use rizhavaan::Record;
 
 pub fn field(file: &[u8], at: usize, width: usize) -> u32 {
     let i = at / 8;

@@ -5,7 +5,7 @@ use crate::files::{self, Answer};
 use crate::graphs::Graph;
 use crate::measure::{counted, race, Rounds, Times};
 use crate::{merge, same};
-use trace::{Cache, Record};
+use rizhavaan::{Cache, Record};
 
 /// The words of the largest scratch that a case may need: it is reserved, and used as far as needed.
 pub const MOST: usize = 700_000_000;
@@ -62,7 +62,7 @@ pub fn engine(
     records: &mut [Record],
 ) -> Answer {
     let cache = if cache { Cache::On } else { Cache::Off };
-    match trace::run(store, query, plan, cache, scratch, list, records) {
+    match rizhavaan::run(store, query, plan, cache, scratch, list, records) {
         Ok(run) => Answer { refusal: 0, rows: run.rows, cost: run.cost, build: run.build, probe: run.probe },
         Err(refusal) => Answer::refused(refusal.number()),
     }
@@ -71,7 +71,7 @@ pub fn engine(
 /// The words of scratch that a run needs, by the plain version of the engine's algorithm.
 pub fn need(store: &[u32], query: &[u8], plan: &[u8], cache: bool) -> usize {
     let mut reserved = vec![0; MOST];
-    let mut records = [Record::default(); trace::MAX_OPERATORS];
+    let mut records = [Record::default(); rizhavaan::MAX_OPERATORS];
     let (query, plan) = (files::query(query), files::plan(plan));
     same::execute(store, &query, &plan, cache, &mut reserved, &mut records).expect("the case fits").need
 }
@@ -93,7 +93,7 @@ impl Bench<'_> {
             [
                 &mut || assert_eq!(merge::load(&file, one), 0),
                 &mut || assert_eq!(same::load(&file, two), 0),
-                &mut || assert!(trace::load_into(&file, three).is_ok()),
+                &mut || assert!(rizhavaan::load_into(&file, three).is_ok()),
             ],
         );
         assert!(stores[0] == stores[2] && stores[1] == stores[2], "three stores are the same");
@@ -119,11 +119,11 @@ impl Bench<'_> {
     /// Drawing a plan.
     pub fn draw(&self) -> Row {
         let (query, store) = (cases::clique().query(), &self.store);
-        let [mut one, mut two, mut three] = [[255; trace::MAX_DRAWN_BYTES]; 3];
+        let [mut one, mut two, mut three] = [[255; rizhavaan::MAX_DRAWN_BYTES]; 3];
         let answers = [
             merge::draw_plan(store, &query, &mut one),
             same::draw_plan(store, &query, &mut two),
-            trace::draw_plan_into(store, &query, &mut three).map_err(|refusal| refusal.number()),
+            rizhavaan::draw_plan_into(store, &query, &mut three).map_err(|refusal| refusal.number()),
         ];
         assert!(answers == [Ok(3); 3] && one == two && two == three, "three plans are the same");
         self.row(
@@ -132,7 +132,7 @@ impl Bench<'_> {
             [
                 &mut || assert!(merge::draw_plan(store, &query, &mut one).is_ok()),
                 &mut || assert!(same::draw_plan(store, &query, &mut two).is_ok()),
-                &mut || assert!(trace::draw_plan_into(store, &query, &mut three).is_ok()),
+                &mut || assert!(rizhavaan::draw_plan_into(store, &query, &mut three).is_ok()),
             ],
         )
     }
@@ -142,12 +142,12 @@ impl Bench<'_> {
         let (changes, edited) = self.graph.changed(40);
         let old = &self.store;
         let mut loaded = vec![0; files::store_words(edited.labels.len(), edited.edges.len())];
-        let counts = trace::load_into(&edited.file(), &mut loaded).expect("the edited graph is loaded");
+        let counts = rizhavaan::load_into(&edited.file(), &mut loaded).expect("the edited graph is loaded");
         let counts = Ok((counts.vertices, counts.edges));
         let mut stores: [Vec<u32>; 3] = std::array::from_fn(|_| vec![1; loaded.len()]);
         let [one, two, three] = &mut stores;
         let applied = |store: &mut [u32]| {
-            let counts = trace::apply_changes_into(old, &changes, store).map_err(|refusal| refusal.number())?;
+            let counts = rizhavaan::apply_changes_into(old, &changes, store).map_err(|refusal| refusal.number())?;
             Ok((counts.vertices, counts.edges))
         };
         let row = self.row(
@@ -168,14 +168,14 @@ impl Bench<'_> {
         let (store, query, plan) = (&self.store[..], case.query(), case.plan());
         let mut scratch = vec![1; need(store, &query, &plan, cache)];
         let mut list = vec![0; MOST];
-        let mut recorded = [Record::default(); trace::MAX_OPERATORS];
+        let mut recorded = [Record::default(); rizhavaan::MAX_OPERATORS];
         let expected = engine(store, &query, &plan, cache, &mut scratch, &mut list, &mut recorded);
         list.truncate(expected.rows * case.width());
         list.shrink_to_fit();
         if let Meter::Timed(_) = self.meter {
             let mut other = vec![1; list.len()];
             for version in [merge::run, same::run] {
-                let mut records = [Record::default(); trace::MAX_OPERATORS];
+                let mut records = [Record::default(); rizhavaan::MAX_OPERATORS];
                 let answer = version(store, &query, &plan, cache, &mut scratch, &mut other, &mut records);
                 assert_eq!(answer, expected, "{}", case.name);
                 assert_eq!(records, recorded, "{}", case.name);
@@ -186,7 +186,7 @@ impl Bench<'_> {
         let buffers = std::cell::RefCell::new((scratch, list));
         let timed = |version: Version| {
             let (scratch, list) = &mut *buffers.borrow_mut();
-            let mut records = [Record::default(); trace::MAX_OPERATORS];
+            let mut records = [Record::default(); rizhavaan::MAX_OPERATORS];
             assert_eq!(version(store, &query, &plan, cache, scratch, list, &mut records), expected);
         };
         let work = format!("{}, cache {}", case.name, if cache { "on" } else { "off" });

@@ -1,8 +1,8 @@
 //! Calls of the static library with buffers that stand between guard words. Whatever the answer, each call is held to what is
 //! true of all: what is lent for reading and what is not lent stays as it was; refused, every number is 0.
 use super::random::Random;
-use trace::sys;
-use trace::Record;
+use rizhavaan::sys;
+use rizhavaan::Record;
 
 const GUARD: usize = 12;
 
@@ -90,7 +90,7 @@ pub fn load(r: &Random, file: &[u8], store: &mut Vec<u32>) -> Loaded {
     let [vertices, edges] = numbers.pointers();
     // SAFETY: every pointer is of a buffer of the length given, and all buffers are distinct.
     let refusal = unsafe {
-        sys::trace_load(lent_file.pointer(), lent_file.len(), lent.pointer_mut(), lent.len(), vertices, edges)
+        sys::rizhavaan_load(lent_file.pointer(), lent_file.len(), lent.pointer_mut(), lent.len(), vertices, edges)
     };
     lent_file.assert_untouched("file");
     if refusal != 0 {
@@ -109,7 +109,7 @@ pub fn apply_changes(r: &Random, old: &[u32], changes: &[u8], store: &mut Vec<u3
     let [vertices, edges] = numbers.pointers();
     // SAFETY: as above.
     let refusal = unsafe {
-        sys::trace_apply_changes(
+        sys::rizhavaan_apply_changes(
             old.pointer(),
             old.len(),
             changes.pointer(),
@@ -136,7 +136,8 @@ pub fn check_plan(r: &Random, query: &[u8], plan: &[u8]) -> (u32, u64) {
     let mut numbers = Numbers::<1>::new(r);
     let [operators] = numbers.pointers();
     // SAFETY: as above.
-    let refusal = unsafe { sys::trace_check_plan(query.pointer(), query.len(), plan.pointer(), plan.len(), operators) };
+    let refusal =
+        unsafe { sys::rizhavaan_check_plan(query.pointer(), query.len(), plan.pointer(), plan.len(), operators) };
     query.assert_untouched("query");
     plan.assert_untouched("plan");
     (refusal, numbers.after(refusal)[0])
@@ -151,7 +152,7 @@ pub fn draw_plan(r: &Random, store: &[u32], query: &[u8], room: usize) -> (u32, 
     let [length] = numbers.pointers();
     // SAFETY: as above.
     let refusal = unsafe {
-        sys::trace_draw_plan(
+        sys::rizhavaan_draw_plan(
             store.pointer(),
             store.len(),
             query.pointer(),
@@ -195,7 +196,7 @@ pub struct Ran {
 
 /// Run in scratch and list of these lengths, which hold arbitrary words, with records for every plan. The scratch is zero afterwards.
 pub fn run(r: &Random, input: &Input, scratch: usize, list: usize) -> Ran {
-    run_recording(r, input, scratch, list, trace::MAX_OPERATORS)
+    run_recording(r, input, scratch, list, rizhavaan::MAX_OPERATORS)
 }
 
 /// The same with so many records, which hold arbitrary numbers.
@@ -213,7 +214,7 @@ pub fn run_recording(r: &Random, input: &Input, scratch: usize, list: usize, rec
     let [rows, cost, build, probe] = numbers.pointers();
     // SAFETY: as above.
     let refusal = unsafe {
-        sys::trace_run(
+        sys::rizhavaan_run(
             store.pointer(),
             store.len(),
             query.pointer(),

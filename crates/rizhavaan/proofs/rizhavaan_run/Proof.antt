@@ -1,4 +1,4 @@
--- `c_api::trace_run` meets its contract: a walk of its MIR, by hand. It knows of `run` and of `give_numbers` that each meets its contract. Every borrow is given up
+-- `rizhavaan::rizhavaan_run` meets its contract: a walk of its MIR, by hand. It knows of `run` and of `give_numbers` that each meets its contract. Every borrow is given up
 -- for good: those of the slices to the first, those of the four numbers to the second. Assumes nothing.
 use mathlib.Core.Path.{_≡_, refl, sym, _∙_, subst}
 use mathlib.Core.Bool.{Bool}
@@ -49,14 +49,14 @@ use Rattle.run.proofs.run as core
 use Rattle.run.proofs.run.Symbol as core-def
 use Rattle.run.proofs.run.Symbol.{name as #run}
 use Rattle.run.proofs.run.Met as core-thm
-use Rattle.c_api.proofs.give_numbers as give
-use Rattle.c_api.proofs.give_numbers.Symbol as give-def
-use Rattle.c_api.proofs.give_numbers.Symbol.{name as #give}
-use Rattle.c_api.proofs.give_numbers.Met as give-thm
-use Rattle.c_api.proofs.trace_run.Key.{name as #trace-run}
-use Rattle.c_api.proofs.trace_run as f
-use Rattle.c_api.proofs.trace_run.Statement as stated
-use Rattle.c_api.proofs.trace_run.Code as code
+use Rattle.rizhavaan.proofs.give_numbers as give
+use Rattle.rizhavaan.proofs.give_numbers.Symbol as give-def
+use Rattle.rizhavaan.proofs.give_numbers.Symbol.{name as #give}
+use Rattle.rizhavaan.proofs.give_numbers.Met as give-thm
+use Rattle.rizhavaan.proofs.rizhavaan_run.Key.{name as #rizhavaan-run}
+use Rattle.rizhavaan.proofs.rizhavaan_run as f
+use Rattle.rizhavaan.proofs.rizhavaan_run.Statement as stated
+use Rattle.rizhavaan.proofs.rizhavaan_run.Code as code
 
 abbrev stayed : Stays (f.ended .signature .params) (f.ended .kept)
 stayed = (
@@ -260,9 +260,9 @@ module _ {M : Type 1} (𝓤 : URA M) (H : Heap 𝓤) (A : Atoms 𝓤) (W : Given
         by ! (exits (zs .1 .1 .1 .1 .0) (zs .1 .1 .1 .1 .1 .0) (zs .1 .1 .1 .1 .1 .1 .0) (ys .1 .0) (ys .1 .1 .0) (ys .1 .1 .1 .0) (ys .1 .1 .1 .1 .0) r r′ w′ e₀ e₁ e₂ e₃ e₄ e s-long l-long r-long)))))))))))))))))))))))))))))))))))))))))
 
 module _ {M : Type 1} (𝓤 : URA M) (H : Heap 𝓤) (A : Atoms 𝓤) (W : Given 𝓤 H A) (mem : Memory → SProp 𝓤) (run : Routine → Fun 𝓤) where
-  trace-run-walks : (C : Calls 𝓤 H) (Λ : Loops 𝓤 H) → FmC 𝓤 H (W .laws) C → Triple 𝓤 (C #run) (Run 𝓤 H A mem run) → Triple 𝓤 (C #give) (Give 𝓤 H A mem run)
+  rizhavaan-run-walks : (C : Calls 𝓤 H) (Λ : Loops 𝓤 H) → FmC 𝓤 H (W .laws) C → Triple 𝓤 (C #run) (Run 𝓤 H A mem run) → Triple 𝓤 (C #give) (Give 𝓤 H A mem run)
       → Walks 𝓤 H A f.ended stayed (WpFn 𝓤 H C Λ code.function) (f.clauses 𝓤 H A mem run)
-  trace-run-walks C Λ fm known-run known-give = walked 𝓤 H A f.ended stayed (f.clauses 𝓤 H A mem run) (WpFn 𝓤 H C Λ code.function)
+  rizhavaan-run-walks C Λ fm known-run known-give = walked 𝓤 H A f.ended stayed (f.clauses 𝓤 H A mem run) (WpFn 𝓤 H C Λ code.function)
       (λ κs. (slice-vals, (slice-vals, (slice-vals, (bool-vals, (slice-vals, (slice-vals, (slice-vals, (ptr-vals, (ptr-vals, (ptr-vals, (ptr-vals, tt))))))))))))
       (λ κs. (
         shr-slice-tells (named 0) (κs .0) u32,
@@ -315,18 +315,18 @@ module _ {M : Type 1} (𝓤 : URA M) (H : Heap 𝓤) (A : Atoms 𝓤) (W : Given
     ),
   )
 
-trace-run-meets : {M : Type 1} (𝓤 : URA M) (H : Heap 𝓤) (A : Atoms 𝓤) → Given 𝓤 H A → (mem : Memory → SProp 𝓤) (run : Routine → Fun 𝓤) (𝓣 : Tables 𝓤 H)
+rizhavaan-run-meets : {M : Type 1} (𝓤 : URA M) (H : Heap 𝓤) (A : Atoms 𝓤) → Given 𝓤 H A → (mem : Memory → SProp 𝓤) (run : Routine → Fun 𝓤) (𝓣 : Tables 𝓤 H)
     → Triple 𝓤 (𝓣 .C #run) (Run 𝓤 H A mem run) → Triple 𝓤 (𝓣 .C #give) (Give 𝓤 H A mem run)
     → Meets 𝓤 H A f.signature (WpFn 𝓤 H (𝓣 .C) (𝓣 .Λ) code.function) (f.spec 𝓤 H A mem run)
-trace-run-meets 𝓤 H A W mem run 𝓣 known-run known-give =
+rizhavaan-run-meets 𝓤 H A W mem run 𝓣 known-run known-give =
     walk-meets 𝓤 H A f.ended stayed W (goes 𝓤 H A W mem run) (f.clauses 𝓤 H A mem run)
-    (WpFn 𝓤 H (𝓣 .C) (𝓣 .Λ) code.function) (WpFn-mono 𝓤 H (W .laws) 𝓣 code.function) (trace-run-walks 𝓤 H A W mem run (𝓣 .C) (𝓣 .Λ) (fmOf 𝓤 H (W .laws) 𝓣) known-run known-give)
+    (WpFn 𝓤 H (𝓣 .C) (𝓣 .Λ) code.function) (WpFn-mono 𝓤 H (W .laws) 𝓣 code.function) (rizhavaan-run-walks 𝓤 H A W mem run (𝓣 .C) (𝓣 .Λ) (fmOf 𝓤 H (W .laws) 𝓣) known-run known-give)
 
-pub trace-run-spec : {M : Type 1} → stated.statement M
+pub rizhavaan-run-spec : {M : Type 1} → stated.statement M
 unfolding code.routine tablesOf
-trace-run-spec 𝓤 H 𝓜 𝓖 𝓡 =
+rizhavaan-run-spec 𝓤 H 𝓜 𝓖 𝓡 =
     entered 𝓤 H (tripleOf 𝓤 H (𝓖 .A) f.signature (f.spec 𝓤 H (𝓖 .A) (𝓜 .mem) (𝓡 .run)))
-    (tables 𝓤 H 𝓜 𝓡 code.env .C) (tables 𝓤 H 𝓜 𝓡 code.env .Λ) #trace-run code.function (code.unfolded 𝓤 H 𝓜 𝓡)
-    (trace-run-meets 𝓤 H (𝓖 .A) (givenOf 𝓤 H 𝓜 𝓖) (𝓜 .mem) (𝓡 .run) (tablesOf 𝓤 H 𝓜 (tables 𝓤 H 𝓜 𝓡 code.env))
+    (tables 𝓤 H 𝓜 𝓡 code.env .C) (tables 𝓤 H 𝓜 𝓡 code.env .Λ) #rizhavaan-run code.function (code.unfolded 𝓤 H 𝓜 𝓡)
+    (rizhavaan-run-meets 𝓤 H (𝓖 .A) (givenOf 𝓤 H 𝓜 𝓖) (𝓜 .mem) (𝓡 .run) (tablesOf 𝓤 H 𝓜 (tables 𝓤 H 𝓜 𝓡 code.env))
     (cited 𝓤 H (Run 𝓤 H (𝓖 .A) (𝓜 .mem) (𝓡 .run)) 𝓜 𝓡 code.env #run core-def.routine code.calls-run·run (core-thm.met 𝓤 H 𝓜 𝓖 𝓡))
-    (cited 𝓤 H (Give 𝓤 H (𝓖 .A) (𝓜 .mem) (𝓡 .run)) 𝓜 𝓡 code.env #give give-def.routine code.calls-c-api·give-numbers (give-thm.met 𝓤 H 𝓜 𝓖 𝓡)))
+    (cited 𝓤 H (Give 𝓤 H (𝓖 .A) (𝓜 .mem) (𝓡 .run)) 𝓜 𝓡 code.env #give give-def.routine code.calls-rizhavaan·give-numbers (give-thm.met 𝓤 H 𝓜 𝓖 𝓡)))

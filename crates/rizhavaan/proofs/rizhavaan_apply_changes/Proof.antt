@@ -1,4 +1,4 @@
--- `c_api::trace_apply_changes` meets its contract: its numbers are the answer of Apply changes. Assumes nothing.
+-- `rizhavaan::rizhavaan_apply_changes` meets its contract: its numbers are the answer of Apply changes. Assumes nothing.
 use mathlib.Core.Path.{_≡_, sym, _∙_, ap}
 use mathlib.Core.List.{List}
 use Prim.Native.Nat.{ℕ}
@@ -6,8 +6,8 @@ use borrow.Author.Needs.{needs}
 use Rattle.load.specs.declared.Loaded.{Loaded}
 use Rattle.changes.specs.Edit.{applyFault, applyAnswer}
 use Rattle.changes.proofs.Loaded.{loads-edited}
-use Rattle.c_api.proofs.trace_apply_changes.Statement.{statement}
-use Rattle.c_api.proofs.trace_apply_changes.Tie as tie
+use Rattle.rizhavaan.proofs.rizhavaan_apply_changes.Statement.{statement}
+use Rattle.rizhavaan.proofs.rizhavaan_apply_changes.Tie as tie
 
 apply-changes-requires : tie.Need-apply-changes-requires
 apply-changes-requires c κs = search needs
@@ -25,5 +25,5 @@ returns c =
     let e = c .before .before .apply-changes .ensures in
     (sym (e .0), (e .1, λ z. loads-edited _ _ _ (accepted _ _ _ _ (e .0) z)))
 
-pub trace-apply-changes-spec : {M : Type 1} → statement M
-trace-apply-changes-spec = tie.close (tie.spec apply-changes-requires same-length returns)
+pub rizhavaan-apply-changes-spec : {M : Type 1} → statement M
+rizhavaan-apply-changes-spec = tie.close (tie.spec apply-changes-requires same-length returns)
