@@ -15,16 +15,19 @@ ghost use Rattle.store_arrivals.specs.inner.Arrivals.{sidesAgree, Decide
 // It is not known whether the sides agree.
 pub const UNDECIDED: u32 = 1;
 
-// Small tables serve so many vertices.
+// Tables of three sizes, by how many vertices they serve, so that those of a small store are soon made; and the words of their sets.
 const FEW_VERTICES: usize = 1024;
 
-// Words of the sets of so many vertices, and of as many as there can be.
 const FEW_SETS: usize = 256;
+
+const SOME_VERTICES: usize = 8192;
+
+const SOME_SETS: usize = 2048;
 
 const MANY_SETS: usize = 16384;
 
-// More labels than these among the sampled entries are left to a search.
-const FEW_LABELS: usize = 12;
+// More labels than there are sets, among the sampled entries, are left to a search.
+const FEW_LABELS: usize = 16;
 
 // One entry of so many is sampled.
 const SAMPLE: usize = 16;
@@ -132,6 +135,25 @@ fn few_vertices_fault(store: &[u32], n: usize, m: usize, side: usize, other: usi
     )
 }
 
+fn some_vertices_fault(store: &[u32], n: usize, m: usize, side: usize, other: usize) -> u32
+    requires { ⌜ BothRise (now store) n m side other × (n ≤ 8192) ⌝ }
+    ensures { λ r. ⌜ Decides r (sidesAgree (now (store .entry)) n side other) ⌝ }
+{
+    let mut cursors = [0u32; SOME_VERTICES];
+    let mut done = [0u16; SOME_VERTICES];
+    let mut sets = [0u64; SOME_SETS];
+    walk_fault(
+        store,
+        n,
+        m,
+        side,
+        other,
+        &mut cursors,
+        &mut done,
+        &mut sets,
+    )
+}
+
 fn many_vertices_fault(store: &[u32], n: usize, m: usize, side: usize, other: usize) -> u32
     requires { ⌜ BothRise (now store) n m side other ⌝ }
     ensures { λ r. ⌜ Decides r (sidesAgree (now (store .entry)) n side other) ⌝ }
@@ -154,7 +176,6 @@ fn many_vertices_fault(store: &[u32], n: usize, m: usize, side: usize, other: us
 // How many labels the sampled entries have, up to one more than few.
 fn sampled_labels(entries: &[u32]) -> usize
     requires { ⌜ length (now entries) ≤ maxGraphEdges ⌝ }
-    ensures { λ r. ⌜ r ≤ 13 ⌝ }
 {
     let mut seen = [0u8; 256];
     let mut labels = 0;
@@ -181,16 +202,14 @@ pub fn arrivals_fault(store: &[u32], n: usize, m: usize, side: usize, other: usi
     ensures { λ r. ⌜ Decides r (sidesAgree (now (store .entry)) n side other) ⌝ }
 {
     let entries = side + n + 1;
-    let labels = sampled_labels(&store[entries..entries + m]);
-    if FEW_LABELS < labels {
-        return UNDECIDED;
-    }
-    // Many labels for so few edges: a search is quicker.
-    if 2 * m + n < labels * n {
+    if FEW_LABELS < sampled_labels(&store[entries..entries + m]) {
         return UNDECIDED;
     }
     if n <= FEW_VERTICES {
         return few_vertices_fault(store, n, m, side, other);
+    }
+    if n <= SOME_VERTICES {
+        return some_vertices_fault(store, n, m, side, other);
     }
     many_vertices_fault(store, n, m, side, other)
 }

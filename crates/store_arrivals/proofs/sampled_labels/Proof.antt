@@ -6,7 +6,7 @@ use Rattle.store_arrivals.proofs.sampled_labels.Statement.{statement}
 use Rattle.store_arrivals.proofs.sampled_labels.Tie as tie
 
 abbrev Inv-loop : tie.InvT-loop
-Inv-loop entries seen₀ labels₀ i₀ seen labels i = (labels ≤ 12) × (i ≤ length entries + 16)
+Inv-loop entries seen₀ labels₀ i₀ seen labels i = (labels ≤ 16) × (i ≤ length entries + 16)
 
 abbrev μ-loop : tie.MeasureT-loop
 μ-loop entries seen₀ labels₀ i₀ seen labels i = length entries + 16 - i
