@@ -15,8 +15,8 @@ use Rattle.short_lists.specs.inner.Check.{unless, countsFit, labelsFit, daysFit
 use Rattle.store.proofs.Counting.{counted-as, counted-few, counted-edges, forward-room, backward-room}
 use Rattle.short_lists.proofs.Loops.{answer-hands, answer-passes}
 use Rattle.short_lists.proofs.Offsets.{offsets-rising, offsets-within}
-use Rattle.store_arrivals.specs.inner.Arrivals.{sidesAgree, Decides, BothRise}
-use Rattle.store_arrivals.proofs.Agreeing.{agree, agreed}
+use Rattle.store_step.specs.inner.Walk.{sidesAgree, Decides, BothRise}
+use Rattle.store_step.proofs.Agreeing.{agree, agreed}
 use Rattle.store.proofs.Spelt.{Passed, passed-accepted}
 use Rattle.store.proofs.Tested.{accepted-passed}
 

@@ -32,11 +32,11 @@ back c =
     let a = c .before .before .before .before .before .args in
     offsets-pass (now (a .store)) (a .n) (a .m) (a .backward) (c .before .side-offsets-fault2 .ensures) (c .if2 .left)
 
-arrivals-fault-requires : tie.Need-arrivals-fault-requires
-arrivals-fault-requires c κs = let p = c .before .before .before .before .before .pre in both-rise (p .0) (p .1) (ahead c) (back c)
+agreement-fault-requires : tie.Need-agreement-fault-requires
+agreement-fault-requires c κs = let p = c .before .before .before .before .before .pre in both-rise (p .0) (p .1) (ahead c) (back c)
 
 returns-3 : tie.Need-returns-3
-returns-3 c = let p = c .before .before .before .before .before .before .before .pre in walk-decides (p .0) (p .1) (ahead (c .before .before)) (back (c .before .before)) (c .before .arrivals-fault .ensures) (c .if3 .taken)
+returns-3 c = let p = c .before .before .before .before .before .before .before .pre in walk-decides (p .0) (p .1) (ahead (c .before .before)) (back (c .before .before)) (c .before .agreement-fault .ensures) (c .if3 .taken)
 
 searched-fault-requires : tie.Need-searched-fault-requires
 searched-fault-requires c κs = let p = c .before .before .before .before .before .before .before .pre in (p .0, (p .1, (ahead (c .before .before), back (c .before .before))))
@@ -52,7 +52,7 @@ sides-fault-spec =
     returns
     side-offsets-fault-requires-2
     returns-2
-    arrivals-fault-requires
+    agreement-fault-requires
     returns-3
     searched-fault-requires
     returns-4)

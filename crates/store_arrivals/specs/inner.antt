@@ -1,2 +1,0 @@
--- Predicates of inner functions. What is known of a store while its entries are walked label by label.
-pub mod Arrivals
