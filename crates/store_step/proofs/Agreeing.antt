@@ -2,14 +2,14 @@
 use mathlib.Core.Path.{_≡_, refl, sym, _∙_, ap}
 use mathlib.Core.Bool.{Bool, true, false, _&&_}
 use mathlib.Core.List.{List, [], _∷_}
-use Prim.Native.Nat.{ℕ, zero, suc, _+_, _-_, _%_, _≤_, _<_}
+use Prim.Native.Nat.{ℕ, zero, suc, _-_, _%_, _<_}
 use native.Mathlib.Omega.{arith}
 use lib.Dec.{eqb, ltb}
 use lib.ListN.{length, getD}
 use borrow.Author.Tests.{lt-ltb, eq-eqb, ne-eqb}
 use Rattle.lists.specs.Lists.{range, all, any, ascendsFrom, ascending}
 use Rattle.lists.proofs.Tests.{fails, clash, and-l, and-r, and-both, or-intro-l, or-intro-r, or-false}
-use Rattle.lists.proofs.All.{all-at, all-range, all-getD, getD-all}
+use Rattle.lists.proofs.All.{all-at, all-getD, getD-all}
 use Rattle.lists.proofs.Sort.{ascending-at, at-ascending}
 use Rattle.adjacency.specs.inner.Side.{listOn}
 use Rattle.adjacency.specs.inner.Portion.{member}

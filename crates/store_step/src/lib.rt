@@ -1,5 +1,5 @@
-// A step of the walk over a store's entries: those of one vertex and one label are held against the words at their neighbours' cursors.
-// An answer is a refusal, 0, or `UNDECIDED`.
+// A step of the walk over a store's entries: those of one vertex and one label are held against the words at
+// their neighbours' cursors. An answer is a refusal, 0, or `UNDECIDED`.
 use adjacency::neighbours;
 use graph::Graph;
 ghost use mathlib.Core.Path.{_≡_};
@@ -7,7 +7,7 @@ ghost use mathlib.Core.Bool.{_&&_};
 ghost use Prim.Native.Nat.{ℕ, _+_, _≤_, _<_};
 ghost use lib.ListN.{length};
 ghost use Rattle.graph.specs.Graph.{maxGraphVertices, maxGraphEdges, entrySpan, entryEnd};
-ghost use Rattle.adjacency.specs.inner.Side.{Within, listOn};
+ghost use Rattle.adjacency.specs.inner.Side.{Within};
 ghost use Rattle.adjacency.specs.inner.Portion.{member};
 ghost use Rattle.short_lists.specs.inner.Check.{unless, entryFits, listFits, listMirrored};
 ghost use Rattle.store_step.specs.inner.Walk.{before, Refutes, Matched, Sides, StepFrom, Stepped};
@@ -15,7 +15,8 @@ ghost use Rattle.store_step.specs.inner.Walk.{before, Refutes, Matched, 
 // It is not known whether the sides agree.
 pub const UNDECIDED: u32 = 1;
 
-// What is known of a vertex after its entries of a label: a refusal, 1 for undecided or 0; and the label of its next entry, 0 for none.
+// What is known of a vertex after its entries of a label: a refusal, 1 for undecided or 0; and the label of
+// its next entry, 0 for none.
 pub struct Step {
     pub fault: u32,
     pub label: u32,
@@ -76,10 +77,13 @@ fn lacks(list: &[u32], x: u32) -> u32
     19
 }
 
-// Of an entry that is not as it should be at its place: 19 where it is out of order or range, or lacks its mirror; else undecided.
+// Of an entry that is not as it should be at its place: 19 where it is out of order or range, or lacks its
+// mirror; else undecided.
 fn verdict(store: &[u32], n: usize, other: usize, v: usize, list: &[u32], i: usize) -> u32
-    requires { ⌜ ((t : ℕ) → t < n → Within (now store) n other t) × (v < n) × (n ≤ maxGraphVertices) × (i < length (now list)) ⌝ }
-    ensures { λ r. ⌜ Refutes r (listFits n (now (list .entry)) && listMirrored (now (store .entry)) n other v (now (list .entry))) ⌝ }
+    requires { ⌜ ((t : ℕ) → t < n → Within (now store) n other t)
+        × (v < n) × (n ≤ maxGraphVertices) × (i < length (now list)) ⌝ }
+    ensures { λ r. ⌜ Refutes r
+        (listFits n (now (list .entry)) && listMirrored (now (store .entry)) n other v (now (list .entry))) ⌝ }
 {
     let entry = list[i];
     let fault = entry_fault(entry, entry_before(list, i), n);
@@ -91,8 +95,9 @@ fn verdict(store: &[u32], n: usize, other: usize, v: usize, list: &[u32], i: usi
     lacks(neighbours(store, n, other, x), mirror)
 }
 
-// The entries of v's list from `from` on that are of the label whose entries begin at `base`, as far as they ascend, lead to a vertex
-// below n, and stand mirrored at that vertex's cursor, which moves on: the index after the last.
+// The entries of v's list from `from` on that are of the label whose entries begin at `base`, as far as they
+// ascend, lead to a vertex below n, and stand mirrored at that vertex's cursor, which moves on: the index
+// after the last.
 fn matched(
     list: &[u32],
     from: usize,
@@ -104,7 +109,8 @@ fn matched(
 ) -> usize
     requires { ⌜ (from ≤ length (now list)) × (v < n) × (n ≤ maxGraphVertices) × (n ≤ length (now cursors)) ⌝ }
     requires { ⌜ (0 < base) × (base + entrySpan ≤ entryEnd) × (length (now back) ≤ maxGraphEdges) ⌝ }
-    ensures { λ r. ⌜ Matched n v base (now (list .entry)) (now (back .entry)) from r (now (cursors .entry)) (now (cursors .exit)) ⌝ }
+    ensures { λ r. ⌜ Matched n v base (now (list .entry)) (now (back .entry)) from r
+        (now (cursors .entry)) (now (cursors .exit)) ⌝ }
 {
     let limit = base + Graph::SPAN;
     let mirror = base + v;
@@ -150,7 +156,8 @@ pub fn advance(
 ) -> Step
     requires { ⌜ Sides (now store) n side other (now back) ⌝ }
     requires { ⌜ StepFrom (now store) n side other (now back) base v (now cursors) (now done) ⌝ }
-    ensures { λ r. ⌜ Stepped (now (store .entry)) n side other (now (back .entry)) base v (now (cursors .exit)) (now (done .exit)) (r .fault) (r .label) ⌝ }
+    ensures { λ r. ⌜ Stepped (now (store .entry)) n side other (now (back .entry)) base v
+        (now (cursors .exit)) (now (done .exit)) (r .fault) (r .label) ⌝ }
 {
     let list = neighbours(store, n, side, v);
     let i = matched(list, wide_count(done[v]), v as u32, base, n, back, cursors);

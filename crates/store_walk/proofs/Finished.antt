@@ -133,7 +133,7 @@ module _ {store : List ℕ} {n side other : ℕ} {back cursors done : List ℕ} 
   arrived-member v k l a =
       let t : ℕ = k % 65536 in
       let inside : a .place - start t < length (listOn store n other t) =
-          omega (arith, a .begins, a .passed, at-end t l, list-long (s .others t l)) in
+      omega (arith, a .begins, a .passed, at-end t l, list-long (s .others t l)) in
       member-at (mirror v k) (listOn store n other t) (a .place - start t) inside
       (other-at t l (a .place - start t) inside
       ∙ ap (λ (i : ℕ). getD back i 0) (let e : start t + (a .place - start t) ≡ a .place = omega (arith, a .begins) in e) ∙ a .word)

@@ -1,5 +1,5 @@
 -- The bits of a word are taken in ascending order. Assumes nothing.
-use mathlib.Core.Path.{_≡_, refl, sym, _∙_, ap, subst}
+use mathlib.Core.Path.{_≡_, refl, _∙_, ap, subst}
 use mathlib.Core.Bool.{Bool, true, false}
 use mathlib.Core.List.{List, _∷_}
 use Prim.Native.Nat.{ℕ, _-_, _^_, _≤_, _<_}
@@ -36,7 +36,7 @@ lowest-rises w h k few = go (ltb 0 (withoutLowest w)) refl
         let some : 0 < withoutLowest w = ltb-true 0 (withoutLowest w) e in
         let fits : withoutLowest w < 2 ^ 64 = omega (arith, without-less w) in
         let both : bitsFrom w ≡ lowestBit w ∷ lowestBit (withoutLowest w) ∷ bitsFrom (withoutLowest (withoutLowest w)) =
-            bits-next w h k ∙ ap (λ (l : List ℕ). lowestBit w ∷ l) (bits-next (withoutLowest w) some fits) in
+        bits-next w h k ∙ ap (λ (l : List ℕ). lowestBit w ∷ l) (bits-next (withoutLowest w) some fits) in
         ltb-true (lowestBit w) (lowestBit (withoutLowest w))
         (and-l (ltb (lowestBit w) (lowestBit (withoutLowest w))) (ascendsFrom (lowestBit (withoutLowest w)) (bitsFrom (withoutLowest (withoutLowest w))))
         (subst (λ (l : List ℕ). ascending l ≡ true) both (bits-ascend w)))

@@ -1,6 +1,7 @@
-// Whether the sides of a store agree, with no search, where there are few labels: the entries are walked by ascending (label, vertex),
-// so that those which lead to a vertex arrive in the order of its list on the other side, and a cursor for each vertex tells the next.
-// An answer of 0 or 19 is the store check's; `UNDECIDED` leaves it to a search.
+// Whether the sides of a store agree, with no search, where there are few labels: the entries are walked by
+// ascending (label, vertex), so that those which lead to a vertex arrive in the order of its list on the
+// other side, and a cursor for each vertex tells the next. An answer of 0 or 19 is the store check's;
+// `UNDECIDED` leaves it to a search.
 pub mod passes;
 
 use crate::passes::label_passes;
@@ -12,7 +13,8 @@ ghost use lib.ListN.{length, getD};
 ghost use Rattle.graph.specs.Graph.{maxGraphVertices, maxGraphEdges};
 ghost use Rattle.store_step.specs.inner.Walk.{sidesAgree, Decides, BothRise, Tables, Ended};
 
-// Tables of three sizes, by how many vertices they serve, so that those of a small store are soon made; and the words of their sets.
+// Tables of three sizes, by how many vertices they serve, so that those of a small store are soon made; and
+// the words of their sets.
 const FEW_VERTICES: usize = 1024;
 
 const FEW_SETS: usize = 256;
@@ -40,7 +42,8 @@ fn is_apart(one: &[u32], two: &[u32], i: usize) -> u32
 // How many cursors do not stand where their list ends; where none does, all stand there.
 fn cursors_apart(cursors: &[u32], ends: &[u32]) -> u32
     requires { ⌜ (length (now ends) ≤ length (now cursors)) × (length (now ends) ≤ maxGraphVertices) ⌝ }
-    ensures { λ r. ⌜ (r ≡ 0 → (t : ℕ) → t < length (now (ends .entry)) → getD (now (cursors .entry)) t 0 ≡ getD (now (ends .entry)) t 0) ⌝ }
+    ensures { λ r. ⌜ (r ≡ 0 → (t : ℕ) → t < length (now (ends .entry))
+        → getD (now (cursors .entry)) t 0 ≡ getD (now (ends .entry)) t 0) ⌝ }
 {
     let mut sum = 0;
     let mut i = 0;
@@ -53,8 +56,10 @@ fn cursors_apart(cursors: &[u32], ends: &[u32]) -> u32
 
 // 1 where entries of vertex v are not done, else 0: sums of these take no branch.
 fn is_left(starts: &[u32], done: &[u16], v: usize) -> u32
-    requires { ⌜ (suc v < length (now starts)) × (v < length (now done)) × (getD (now starts) v 0 ≤ maxGraphEdges) ⌝ }
-    ensures { λ r. ⌜ (r ≡ 0 → getD (now (starts .entry)) (suc v) 0 ≤ getD (now (starts .entry)) v 0 + getD (now (done .entry)) v 0) × (r ≤ 1) ⌝ }
+    requires { ⌜ (suc v < length (now starts)) × (v < length (now done))
+        × (getD (now starts) v 0 ≤ maxGraphEdges) ⌝ }
+    ensures { λ r. ⌜ (r ≡ 0 → getD (now (starts .entry)) (suc v) 0
+        ≤ getD (now (starts .entry)) v 0 + getD (now (done .entry)) v 0) × (r ≤ 1) ⌝ }
 {
     (starts[v] + (done[v] as u32) < starts[v + 1]) as u32
 }
@@ -63,7 +68,8 @@ fn is_left(starts: &[u32], done: &[u16], v: usize) -> u32
 fn vertices_left(starts: &[u32], done: &[u16], n: usize) -> u32
     requires { ⌜ (length (now starts) ≡ suc n) × (n ≤ length (now done)) × (n ≤ maxGraphVertices)
         × ((v : ℕ) → v < n → getD (now starts) v 0 ≤ maxGraphEdges) ⌝ }
-    ensures { λ r. ⌜ (r ≡ 0 → (v : ℕ) → v < n → getD (now (starts .entry)) (suc v) 0 ≤ getD (now (starts .entry)) v 0 + getD (now (done .entry)) v 0) ⌝ }
+    ensures { λ r. ⌜ (r ≡ 0 → (v : ℕ) → v < n → getD (now (starts .entry)) (suc v) 0
+        ≤ getD (now (starts .entry)) v 0 + getD (now (done .entry)) v 0) ⌝ }
 {
     let mut sum = 0;
     let mut v = 0;
@@ -75,7 +81,15 @@ fn vertices_left(starts: &[u32], done: &[u16], n: usize) -> u32
 }
 
 // 0 where every cursor stands at its end and every entry is done, else undecided.
-fn ends_fault(store: &[u32], n: usize, m: usize, side: usize, other: usize, cursors: &[u32], done: &[u16]) -> u32
+fn ends_fault(
+    store: &[u32],
+    n: usize,
+    m: usize,
+    side: usize,
+    other: usize,
+    cursors: &[u32],
+    done: &[u16],
+) -> u32
     requires { ⌜ BothRise (now store) n m side other × (n ≤ length (now cursors)) × (n ≤ length (now done)) ⌝ }
     ensures { λ r. ⌜ Ended (now (store .entry)) n side other (now (cursors .entry)) (now (done .entry)) r ⌝ }
 {
@@ -120,16 +134,7 @@ fn few_vertices_fault(store: &[u32], n: usize, m: usize, side: usize, other: usi
     let mut cursors = [0u32; FEW_VERTICES];
     let mut done = [0u16; FEW_VERTICES];
     let mut sets = [0u64; FEW_SETS];
-    walk_fault(
-        store,
-        n,
-        m,
-        side,
-        other,
-        &mut cursors,
-        &mut done,
-        &mut sets,
-    )
+    walk_fault(store, n, m, side, other, &mut cursors, &mut done, &mut sets)
 }
 
 fn some_vertices_fault(store: &[u32], n: usize, m: usize, side: usize, other: usize) -> u32
@@ -139,16 +144,7 @@ fn some_vertices_fault(store: &[u32], n: usize, m: usize, side: usize, other: us
     let mut cursors = [0u32; SOME_VERTICES];
     let mut done = [0u16; SOME_VERTICES];
     let mut sets = [0u64; SOME_SETS];
-    walk_fault(
-        store,
-        n,
-        m,
-        side,
-        other,
-        &mut cursors,
-        &mut done,
-        &mut sets,
-    )
+    walk_fault(store, n, m, side, other, &mut cursors, &mut done, &mut sets)
 }
 
 fn many_vertices_fault(store: &[u32], n: usize, m: usize, side: usize, other: usize) -> u32
@@ -158,16 +154,7 @@ fn many_vertices_fault(store: &[u32], n: usize, m: usize, side: usize, other: us
     let mut cursors = [0u32; Graph::MAX_VERTICES];
     let mut done = [0u16; Graph::MAX_VERTICES];
     let mut sets = [0u64; MANY_SETS];
-    walk_fault(
-        store,
-        n,
-        m,
-        side,
-        other,
-        &mut cursors,
-        &mut done,
-        &mut sets,
-    )
+    walk_fault(store, n, m, side, other, &mut cursors, &mut done, &mut sets)
 }
 
 // How many labels the sampled entries have, up to one more than few.

@@ -1,5 +1,5 @@
-// All vertices, label by label. A vertex waits in the set of its next entry's label; which set that is, and which vertices are in it,
-// decides how soon an answer comes, and not which.
+// All vertices, label by label. A vertex waits in the set of its next entry's label; which set that is, and
+// which vertices are in it, decides how soon an answer comes, and not which.
 use bitset::lowest;
 use bitset::without_lowest;
 use graph::Graph;
@@ -10,7 +10,8 @@ ghost use Prim.Native.Nat.{_+_, _*_, _≤_, _<_};
 ghost use lib.ListN.{length};
 ghost use Rattle.graph.specs.Graph.{maxGraphVertices, entrySpan, entryEnd};
 ghost use Rattle.bitset.specs.inner.Set.{lowestBit};
-ghost use Rattle.store_step.specs.inner.Walk.{sidesAgree, Outcome, WalkedIn, Sides, Blocks, Tables, Labelled, StepFrom};
+ghost use Rattle.store_step.specs.inner.Walk.{sidesAgree, Outcome, WalkedIn, StepFrom};
+ghost use Rattle.store_step.specs.inner.Walk.{Sides, Blocks, Tables, Labelled};
 
 // So many sets are kept, each in words of 64 vertices; word i of set k is word i * SETS + k.
 const SETS: usize = 16;
@@ -29,8 +30,8 @@ fn wide(set: u8) -> usize
     set as usize
 }
 
-// The set of a label: the one that it has, or a new one; SETS or above where none is left. `sets_of` has one more than its number for
-// each label, and for label 0 how many there are.
+// The set of a label: the one that it has, or a new one; SETS or above where none is left. `sets_of` has one
+// more than its number for each label, and for label 0 how many there are.
 fn set_of(label: usize, sets_of: &mut [u8; LABELS]) -> usize
     requires { ⌜ label < 256 ⌝ }
 {
@@ -71,7 +72,8 @@ fn vertex_pass(
     requires { ⌜ Sides (now store) n side other (now back) × Tables n (now cursors) (now done) (now sets) ⌝ }
     requires { ⌜ StepFrom (now store) n side other (now back) base v (now cursors) (now done) ⌝ }
     ensures { λ r. ⌜ Outcome r (sidesAgree (now (store .entry)) n side other)
-        (WalkedIn (now (store .entry)) n side other (now (back .entry)) (now (cursors .exit)) (now (done .exit)) (base + v + 1)) ⌝ }
+        (WalkedIn (now (store .entry)) n side other (now (back .entry))
+        (now (cursors .exit)) (now (done .exit)) (base + v + 1)) ⌝ }
 {
     let s = advance(store, n, side, other, back, base, v, cursors, done);
     if s.fault != 0 {
@@ -105,9 +107,11 @@ fn word_pass(
 ) -> u32
     requires { ⌜ Sides (now store) n side other (now back) × Tables n (now cursors) (now done) (now sets) ⌝ }
     requires { ⌜ Labelled base × (64 * i < n) ⌝ }
-    requires { ⌜ WalkedIn (now store) n side other (now back) (now cursors) (now done) (base + 64 * i + lowestBit word) ⌝ }
+    requires { ⌜ WalkedIn (now store) n side other (now back) (now cursors) (now done)
+        (base + 64 * i + lowestBit word) ⌝ }
     ensures { λ r. ⌜ Outcome r (sidesAgree (now (store .entry)) n side other)
-        (WalkedIn (now (store .entry)) n side other (now (back .entry)) (now (cursors .exit)) (now (done .exit)) (base + 64 * i + 64)) ⌝ }
+        (WalkedIn (now (store .entry)) n side other (now (back .entry))
+        (now (cursors .exit)) (now (done .exit)) (base + 64 * i + 64)) ⌝ }
 {
     let mut w = word;
     while 0 < w {
@@ -153,7 +157,8 @@ fn label_pass(
     requires { ⌜ (0 < label) × (label < 256) ⌝ }
     requires { ⌜ WalkedIn (now store) n side other (now back) (now cursors) (now done) (label * entrySpan) ⌝ }
     ensures { λ r. ⌜ Outcome r (sidesAgree (now (store .entry)) n side other)
-        (WalkedIn (now (store .entry)) n side other (now (back .entry)) (now (cursors .exit)) (now (done .exit)) (label * entrySpan + entrySpan)) ⌝ }
+        (WalkedIn (now (store .entry)) n side other (now (back .entry))
+        (now (cursors .exit)) (now (done .exit)) (label * entrySpan + entrySpan)) ⌝ }
 {
     let set = wide(sets_of[label]);
     if set == 0 {
@@ -211,9 +216,10 @@ pub fn label_passes(
     sets: &mut [u64],
 ) -> u32
     requires { ⌜ Sides (now store) n side other (now back) × Tables n (now cursors) (now done) (now sets) ⌝ }
-    requires { ⌜ WalkedIn (now store) n side other (now back) (now cursors) (now done) (entrySpan) ⌝ }
+    requires { ⌜ WalkedIn (now store) n side other (now back) (now cursors) (now done) entrySpan ⌝ }
     ensures { λ r. ⌜ Outcome r (sidesAgree (now (store .entry)) n side other)
-        (WalkedIn (now (store .entry)) n side other (now (back .entry)) (now (cursors .exit)) (now (done .exit)) (entryEnd)) ⌝ }
+        (WalkedIn (now (store .entry)) n side other (now (back .entry))
+        (now (cursors .exit)) (now (done .exit)) entryEnd) ⌝ }
 {
     let mut sets_of = [0u8; LABELS];
     sets_of[0] = 1;

@@ -6,7 +6,6 @@ use denote.Ref.{now}
 use Rattle.short_lists.specs.inner.Check.{sideFits}
 use Rattle.store.proofs.Counting.{counted-few, counted-edges, forward-room, backward-room}
 use Rattle.store.proofs.Decided.{lists-refuse, lists-pass, lists-within, back-good, mirrors-decide}
-use borrow.Author.Needs.{needs}
 use Rattle.store.proofs.searched_fault.Statement.{statement}
 use Rattle.store.proofs.searched_fault.Tie as tie
 

@@ -5,7 +5,6 @@ use denote.Ref.{now}
 use Rattle.short_lists.specs.inner.Check.{offsetsFit, offsetsOn}
 use Rattle.store.proofs.Counting.{forward-room, backward-room}
 use Rattle.store.proofs.Decided.{ahead-refuses, back-refuses, offsets-pass, both-rise, walk-decides}
-use borrow.Author.Needs.{needs}
 use Rattle.store.proofs.sides_fault.Statement.{statement}
 use Rattle.store.proofs.sides_fault.Tie as tie
 

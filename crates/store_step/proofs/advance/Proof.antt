@@ -21,7 +21,7 @@ cast-matched : tie.Need-cast-matched
 cast-matched c = search needs
 
 matched-requires : tie.Need-matched-requires
-matched-requires c κs = 
+matched-requires c κs =
     let a = c .before .before .before .before .before .before .before .before in
     let s = a .pre .0 in
     let f = a .pre .1 in (
@@ -57,8 +57,11 @@ returns-2 : tie.Need-returns-2
 returns-2 c =
     let m = c .before .before .before .before in
     let a = m .before .before .before .before .before .before .before .before .before in
-    record { outcome = holds
-    (walked-step (a .pre .0) (a .pre .1) (m .before .before .before .before .neighbours .ensures) (m .before .before .wide-count .ensures) (m .matched .ensures)); narrow = omega arith }
+    record {
+      outcome = holds
+          (walked-step (a .pre .0) (a .pre .1) (m .before .before .before .before .neighbours .ensures) (m .before .before .wide-count .ensures) (m .matched .ensures));
+      narrow = omega arith;
+    }
 
 mul-entry : tie.Need-mul-entry
 mul-entry c = search needs
@@ -79,8 +82,11 @@ returns-3 : tie.Need-returns-3
 returns-3 c =
     let m = c .before .before .before .before .before .before .before in
     let a = m .before .before .before .before .before .before .before .before .before in
-    record { outcome = holds
-    (walked-step (a .pre .0) (a .pre .1) (m .before .before .before .before .neighbours .ensures) (m .before .before .wide-count .ensures) (m .matched .ensures)); narrow = omega arith }
+    record {
+      outcome = holds
+          (walked-step (a .pre .0) (a .pre .1) (m .before .before .before .before .neighbours .ensures) (m .before .before .wide-count .ensures) (m .matched .ensures));
+      narrow = omega arith;
+    }
 
 verdict-requires : tie.Need-verdict-requires
 verdict-requires c κs =
@@ -98,8 +104,11 @@ returns-4 : tie.Need-returns-4
 returns-4 c =
     let m = c .before .before .before .before .before .before .before in
     let a = m .before .before .before .before .before .before .before .before .before in
-    record { outcome = verdict-outcome (a .pre .0) (a .pre .1) (m .before .before .before .before .neighbours .ensures)
-    (walked-step (a .pre .0) (a .pre .1) (m .before .before .before .before .neighbours .ensures) (m .before .before .wide-count .ensures) (m .matched .ensures)) (c .verdict .ensures); narrow = omega arith }
+    record {
+      outcome = verdict-outcome (a .pre .0) (a .pre .1) (m .before .before .before .before .neighbours .ensures)
+          (walked-step (a .pre .0) (a .pre .1) (m .before .before .before .before .neighbours .ensures) (m .before .before .wide-count .ensures) (m .matched .ensures)) (c .verdict .ensures);
+      narrow = omega arith;
+    }
 
 pub advance-spec : {M : Type 1} → statement M
 advance-spec =

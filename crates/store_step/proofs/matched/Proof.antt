@@ -104,7 +104,7 @@ loop-less : tie.Need-loop-less Inv-loop μ-loop
 loop-less c = omega arith
 
 loop-again : tie.Need-loop-again Inv-loop μ-loop
-loop-again c = 
+loop-again c =
     let l = c .before .before .before .before .before .before .before .before .before .before in
     matching-next (l .loop .inv) (omega arith) (omega arith) (omega arith) (omega arith) (omega (arith, l .loop .inv .long)) (c .before .before .before .wide .ensures)
     (c .if5 .left)

@@ -22,7 +22,7 @@ entry-fault-requires : tie.Need-entry-fault-requires
 entry-fault-requires c κs = search needs
 
 returns : tie.Need-returns
-returns c = 
+returns c =
     let a = c .before .before .before .before .before .before in
     entry-refutes (now (a .args .store)) (a .args .n) (a .args .other) (a .args .v) (now (a .args .list)) (a .args .i) (omega arith)
     (c .before .before .entry-before .ensures) (c .before .entry-fault .ensures) (c .if1 .taken)
@@ -53,7 +53,7 @@ lacks-requires : tie.Need-lacks-requires
 lacks-requires c κs = search needs
 
 returns-2 : tie.Need-returns-2
-returns-2 c = 
+returns-2 c =
     let a = c .before .before .before .before .before .before .before .before in
     mirror-refutes (now (a .args .store)) (a .args .n) (a .args .other) (a .args .v) (now (a .args .list)) (a .args .i) (omega arith)
     (c .before .neighbours .ensures) (c .lacks .ensures)

@@ -1,5 +1,6 @@
--- The check of a store by cursors: entries are walked by ascending (label, vertex), so that those which lead to a vertex arrive in the
--- order of its list on the other side, and a cursor for each vertex tells where the next one stands. Assumes nothing.
+-- The check of a store by cursors: entries are walked by ascending (label, vertex), so that those which lead
+-- to a vertex arrive in the order of its list on the other side, and a cursor for each vertex tells where the
+-- next one stands. Assumes nothing.
 use mathlib.Core.Path.{_≡_}
 use mathlib.Core.Logic.{_⊎_}
 use mathlib.Core.Bool.{Bool, true, false, _&&_}
@@ -31,12 +32,14 @@ Decides r b = (r ≡ 1 → ⊥) → r ≡ unless b
 
 -- ---- one vertex and one label
 
--- The number that an entry has to be above: the entry before it, and for the first one the last number without a label.
+-- The number that an entry has to be above: the entry before it, and for the first one the last number
+-- without a label.
 unfoldable pub before : List ℕ → ℕ → ℕ
 before s zero = entrySpan - 1
 before s (suc i) = getD s i 0
 
--- An entry of vertex v, of the label whose entries begin at `base`, found at the cursor of its neighbour, which moved on.
+-- An entry of vertex v, of the label whose entries begin at `base`, found at the cursor of its neighbour,
+-- which moved on.
 pub record MatchedEntry (n v base : ℕ) (list back : List ℕ) (from : ℕ) (old new : List ℕ) (j : ℕ) : Type 0 where
   pub low : base ≤ getD list j 0
   pub high : getD list j 0 < base + entrySpan
@@ -50,12 +53,13 @@ pub record Matched (n v base : ℕ) (list back : List ℕ) (from i : ℕ) (old n
   pub starts : from ≤ i
   pub inside : i ≤ length list
   pub entries : (j : ℕ) → from ≤ j → j < i → MatchedEntry n v base list back from old new j
-  pub cursors : (t : ℕ) → (getD new t 0 ≡ getD old t 0) ⊎ ((getD new t 0 ≡ suc (getD old t 0)) × (getD back (getD old t 0) 0 ≡ base + v))
+  pub cursors : (t : ℕ) → (getD new t 0 ≡ getD old t 0)
+      ⊎ ((getD new t 0 ≡ suc (getD old t 0)) × (getD back (getD old t 0) 0 ≡ base + v))
 
 -- ---- all vertices, between two labels or two vertices
 
--- A word of the other side that a cursor has passed, in the list that begins at `start`. It is below the entry that (label, vertex)
--- would have next.
+-- A word of the other side that a cursor has passed, in the list that begins at `start`. It is below the
+-- entry that (label, vertex) would have next.
 pub record Word (n : ℕ) (back : List ℕ) (start next c : ℕ) : Type 0 where
   pub given : entrySpan ≤ getD back c 0
   pub narrow : getD back c 0 < entryEnd
@@ -77,8 +81,10 @@ pub record Done (n : ℕ) (starts : ℕ → ℕ) (back cursors : List ℕ) (v : 
   pub neighbour : getD list j 0 % entrySpan < n
   pub arrived : Arrived starts back cursors v (getD list j 0)
 
--- So many entries of each vertex are done, the cursors stand behind their words, and no word is at or past `next`.
-pub record Walked (n : ℕ) (starts : ℕ → ℕ) (back : List ℕ) (lists : ℕ → List ℕ) (cursors done : List ℕ) (next : ℕ) : Type 0 where
+-- So many entries of each vertex are done, the cursors stand behind their words, and no word is at or past
+-- `next`.
+pub record Walked (n : ℕ) (starts : ℕ → ℕ) (back : List ℕ) (lists : ℕ → List ℕ)
+    (cursors done : List ℕ) (next : ℕ) : Type 0 where
   pub begun : (t : ℕ) → t < n → starts t ≤ getD cursors t 0
   pub words : (t c : ℕ) → t < n → starts t ≤ c → c < getD cursors t 0 → Word n back (starts t) next c
   pub inside : (v : ℕ) → v < n → getD done v 0 ≤ length (lists v)
@@ -129,7 +135,8 @@ pub record Labelled (base : ℕ) : Type 0 where
   pub narrow : label < 256
 
 -- Vertex v is next among those of the label whose entries begin at `base`.
-pub record StepFrom (store : List ℕ) (n side other : ℕ) (back : List ℕ) (base v : ℕ) (cursors done : List ℕ) : Type 0 where
+pub record StepFrom (store : List ℕ) (n side other : ℕ) (back : List ℕ) (base v : ℕ)
+    (cursors done : List ℕ) : Type 0 where
   pub vertex-in : v < n
   pub labelled : Labelled base
   pub cursors-fit : n ≤ length cursors
@@ -137,11 +144,14 @@ pub record StepFrom (store : List ℕ) (n side other : ℕ) (back : List ℕ) (b
   pub walked : WalkedIn store n side other back cursors done (base + v)
 
 -- After that, with an answer and the label of its next entry.
-pub record Stepped (store : List ℕ) (n side other : ℕ) (back : List ℕ) (base v : ℕ) (cursors done : List ℕ) (fault label : ℕ) : Type 0 where
-  pub outcome : Outcome fault (sidesAgree store n side other) (WalkedIn store n side other back cursors done (base + v + 1))
+pub record Stepped (store : List ℕ) (n side other : ℕ) (back : List ℕ) (base v : ℕ)
+    (cursors done : List ℕ) (fault label : ℕ) : Type 0 where
+  pub outcome : Outcome fault (sidesAgree store n side other)
+      (WalkedIn store n side other back cursors done (base + v + 1))
   pub narrow : label < 256
 
--- An answer of 0 says that every cursor stands where its list ends, and that as many entries of each vertex are done as it has.
+-- An answer of 0 says that every cursor stands where its list ends, and that as many entries of each vertex
+-- are done as it has.
 pub record Ended (store : List ℕ) (n side other : ℕ) (cursors done : List ℕ) (r : ℕ) : Type 0 where
   pub cursors-end : r ≡ 0 → (t : ℕ) → t < n → getD cursors t 0 ≡ getD store (other + t + 1) 0
   pub all-done : r ≡ 0 → (v : ℕ) → v < n → getD store (side + v + 1) 0 ≤ getD store (side + v) 0 + getD done v 0

@@ -1,5 +1,5 @@
 -- `store_walk::walk_fault` meets its contract: before the passes nothing is done, and after them the last tests decide. Assumes nothing.
-use mathlib.Core.Path.{_≡_, refl}
+use mathlib.Core.Path.{refl}
 use Prim.Native.Nat.{_+_, _-_}
 use native.Mathlib.Omega.{arith}
 use lib.ListN.{drop}
@@ -55,8 +55,8 @@ label-passes-requires c κs =
     let p = a .pre in (
       (rising-sides (p .0 .0), tables-kept (p .0 .1) (search needs) refl refl),
       walked-none (now (a .args .store)) (a .args .side) (a .args .other)
-      (copied-at (now (a .args .store)) (a .args .n) (a .args .other)
-      (a .args .other + a .args .n - a .args .other) (drop (a .args .n) (now (a .args .cursors))) (c .before .before .before .before .before .before .copy .ensures) (omega arith) (omega (arith, p .0 .0 .other-room))) (p .1) 65536,
+          (copied-at (now (a .args .store)) (a .args .n) (a .args .other)
+          (a .args .other + a .args .n - a .args .other) (drop (a .args .n) (now (a .args .cursors))) (c .before .before .before .before .before .before .copy .ensures) (omega arith) (omega (arith, p .0 .0 .other-room))) (p .1) 65536,
     )
 
 same-length : tie.Need-same-length

@@ -5,7 +5,6 @@ use native.Mathlib.Omega.{arith}
 use lib.ListN.{length}
 use borrow.Author.Needs.{needs}
 use Rattle.store_step.specs.inner.Walk.{WalkedIn}
-use Rattle.store_walk.proofs.Lowest.{lowest-most}
 use Rattle.store_step.proofs.Walking.{walked-on}
 use Rattle.store_step.proofs.Stepping.{undecided, holds, handed, tables-kept, block-in}
 use Rattle.store_walk.proofs.passes.label_pass.Statement.{statement}

@@ -1,5 +1,5 @@
 -- `store_walk::passes::word_pass` meets its contract: the vertices of the word below the lowest of w are passed. Assumes nothing.
-use mathlib.Core.Path.{_≡_, refl, sym, _∙_, ap}
+use mathlib.Core.Path.{_≡_, refl, ap}
 use Prim.Native.Nat.{_+_, _*_, _^_, _<_}
 use native.Mathlib.Omega.{arith}
 use lib.ListN.{length}
@@ -79,7 +79,7 @@ loop-again c =
     let low = c .before .before .before .before .before .before .before .before .before .before .before .before .before .before .lowest in
     let k : low .result < 64 = low .ensures .1 in
     let rises : lowestBit (l .loop .w) < lowestBit (withoutLowest (l .loop .w)) =
-        lowest-rises (l .loop .w) (omega arith) (l .loop .inv .1) (omega (arith, low .ensures .0)) in (
+    lowest-rises (l .loop .w) (omega arith) (l .loop .inv .1) (omega (arith, low .ensures .0)) in (
       walked-on (c .before .before .before .before .before .before .before .before .vertex-pass .ensures .passed (c .before .if2 .left)) (omega (arith, low .ensures .0, ap lowestBit (c .without-lowest .ensures .0))),
       omega (arith, l .loop .inv .1, c .without-lowest .ensures .1),
       search needs,
