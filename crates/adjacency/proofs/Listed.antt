@@ -7,7 +7,7 @@ use Prim.Native.Nat.{ℕ, _+_, _%_, _≤_}
 use native.Mathlib.Omega.{arith}
 use lib.Dec.{eqb, ltb}
 use borrow.Author.Tests.{eqb-true, lt-ltb}
-use Rattle.lists.specs.Lists.{_⇒_, all, any, keep, count, ascending}
+use Rattle.lists.specs.Lists.{_implies_, all, any, keep, countIf, ascending}
 use Rattle.lists.proofs.Tests.{imp-intro}
 use Rattle.lists.proofs.All.{all-keep, all-follows}
 use Rattle.lists.proofs.Count.{count-map, count-keep, all-map}
@@ -22,14 +22,14 @@ use Rattle.adjacency.specs.inner.Portion.{listOf}
 
 -- Counting and testing in a list is counting and testing over the vertex's edges.
 pub list-count : (p : ℕ → Bool) (d : Direction) (g : Graph) (x : ℕ)
-    → count p (listOf d g x) ≡ count (λ (e : Edge). eqb (near d e) x && p (entry d e)) (g .edges)
+    → countIf p (listOf d g x) ≡ countIf (λ (e : Edge). eqb (near d e) x && p (entry d e)) (g .edges)
 unfolding listOf
 list-count p d g x =
     let mine : List Edge = keep (λ (e : Edge). eqb (near d e) x) (g .edges) in
     count-sort p (map (entry d) mine) ∙ count-map p (entry d) mine ∙ count-keep (λ (e : Edge). p (entry d e)) (λ (e : Edge). eqb (near d e) x) (g .edges)
 
 pub list-all : (p : ℕ → Bool) (d : Direction) (g : Graph) (x : ℕ)
-    → all p (listOf d g x) ≡ all (λ (e : Edge). eqb (near d e) x ⇒ p (entry d e)) (g .edges)
+    → all p (listOf d g x) ≡ all (λ (e : Edge). eqb (near d e) x implies p (entry d e)) (g .edges)
 unfolding listOf
 list-all p d g x =
     let mine : List Edge = keep (λ (e : Edge). eqb (near d e) x) (g .edges) in
@@ -42,7 +42,7 @@ list-any p d g x =
 
 module _ (g : Graph) (w : WellFormed g) (d : Direction) (x : ℕ) where
   -- A test counts in the list what it counts in the words of a store.
-  same-count : (p : ℕ → Bool) (rest : List ℕ) → count p (listAt d g (storeOf g ++ rest) x) ≡ count p (listOf d g x)
+  same-count : (p : ℕ → Bool) (rest : List ℕ) → countIf p (listAt d g (storeOf g ++ rest) x) ≡ countIf p (listOf d g x)
   same-count p rest = vertex-count g w d x rest p ∙ sym (list-count p d g x)
 
   pub list-ascends : ascending (listOf d g x) ≡ true
@@ -51,7 +51,7 @@ module _ (g : Graph) (w : WellFormed g) (d : Direction) (x : ℕ) where
       let mine : List ℕ = map (entry d) (keep (λ (e : Edge). eqb (near d e) x) (g .edges)) in
       sort-ascends mine
       (λ k.
-      let l : count (λ (j : ℕ). eqb j k) (listAt d g (storeOf g ++ []) x) ≤ 1 = ascending-once _ (vertex-ascends g w d x []) k in
+      let l : countIf (λ (j : ℕ). eqb j k) (listAt d g (storeOf g ++ []) x) ≤ 1 = ascending-once _ (vertex-ascends g w d x []) k in
       omega (arith, same-count (λ (j : ℕ). eqb j k) [], count-sort (λ (j : ℕ). eqb j k) mine))
 
   -- The words of the store between two offsets.
@@ -61,7 +61,7 @@ module _ (g : Graph) (w : WellFormed g) (d : Direction) (x : ℕ) where
   pub list-entries : (p : ℕ → Bool) → ((e : Edge) → Fitting (g .vertices) e → near d e ≡ x → p (entry d e) ≡ true) → all p (listOf d g x) ≡ true
   list-entries p h =
       list-all p d g x
-      ∙ all-follows (fitting (g .vertices)) (λ (e : Edge). eqb (near d e) x ⇒ p (entry d e)) (g .edges) (w .edges-fit)
+      ∙ all-follows (fitting (g .vertices)) (λ (e : Edge). eqb (near d e) x implies p (entry d e)) (g .edges) (w .edges-fit)
       (λ e t. imp-intro (eqb (near d e) x) (p (entry d e)) (λ i. h e (fitting-edge (g .vertices) e t) (eqb-true (near d e) x i)))
 
   -- An entry: a label from 1 to 255 and a neighbour below N.

@@ -2,7 +2,7 @@
 use mathlib.Core.Path.{_≡_, refl}
 use mathlib.Core.Bool.{true}
 use mathlib.Core.List.{flatMap, flatten}
-use Rattle.lists.specs.Lists.{range, all, any, keep, count, total, largest, same, ascendsFrom, ascending, insert, sort}
+use Rattle.lists.specs.Lists.{range, all, any, keep, countIf, total, largest, same, ascendsFrom, ascending, insertSorted, sort}
 use Rattle.lists.specs.Refusal.{first}
 use Rattle.packed.specs.Field.{bitAt, fieldAt, fillSet}
 use Rattle.graph.specs.Graph.{covers, linked, portionLength}
@@ -22,5 +22,5 @@ use Rattle.execution.specs.Run.{topRows, planRows, planCost, planBuild, planPro
 use Rattle.cases.specs.Cases.{passes, starred}
 
 pub starred-pass : all passes starred ≡ true
-unfolding passes starred flatMap flatten range all any keep count total largest same ascendsFrom ascending insert sort first bitAt fieldAt fillSet covers linked portionLength graphOf graphFault offsets entries storeOf loadFault loadStore graphIn wellFormed storeFault paired reached connected queryOf queryFault joinable ruleFault covered endFault rulesFault place operatorsOf planFault checkFault members pack look fits holds allows permits scans scanRows candidates grown sameUsed reuses extendAfter extendRows portionFor rowCost costAfter extendCost longestSet agree partners joinRows heads apply costOf buildOf probeOf besidesOf topWords needOf pileAfter sumOver needFrom topRows planRows planCost planBuild planProbe planNeed recordOf recordsFrom planRecords runFault runAnswer runList runRecords
+unfolding passes starred flatMap flatten range all any keep countIf total largest same ascendsFrom ascending insertSorted sort first bitAt fieldAt fillSet covers linked portionLength graphOf graphFault offsets entries storeOf loadFault loadStore graphIn wellFormed storeFault paired reached connected queryOf queryFault joinable ruleFault covered endFault rulesFault place operatorsOf planFault checkFault members pack look fits holds allows permits scans scanRows candidates grown sameUsed reuses extendAfter extendRows portionFor rowCost costAfter extendCost longestSet agree partners joinRows heads apply costOf buildOf probeOf besidesOf topWords needOf pileAfter sumOver needFrom topRows planRows planCost planBuild planProbe planNeed recordOf recordsFrom planRecords runFault runAnswer runList runRecords
 starred-pass = refl

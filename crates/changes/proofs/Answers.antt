@@ -6,7 +6,7 @@ use native.Mathlib.Omega.{arith}
 use lib.Dec.{ltb}
 use lib.ListN.{length, drop}
 use borrow.Author.Tests.{lt-ltb, le-ltb, ltb-false, ne-eqb}
-use Rattle.lists.specs.Lists.{range, count}
+use Rattle.lists.specs.Lists.{range, countIf}
 use Rattle.lists.specs.Refusal.{refuse, first}
 use Rattle.lists.proofs.Count.{count-map}
 use Rattle.lists.proofs.Maps.{length-image}
@@ -100,7 +100,7 @@ module _ {old : List ℕ} {n m : ℕ} {s : List ℕ} {k : ℕ} (t : Tested old n
   pub few-edges : m < 1048576
   few-edges = omega (arith, t .edges, store-edges old (t .store), graph-formed old (t .store) .few-edges)
 
-  size : length (editedGraph old s .edges) + k ≡ m + 2 * count (addsIn s) (range k)
+  size : length (editedGraph old s .edges) + k ≡ m + 2 * countIf (addsIn s) (range k)
   unfolding changesOf
   size =
       omega (
@@ -111,13 +111,13 @@ module _ {old : List ℕ} {n m : ℕ} {s : List ℕ} {k : ℕ} (t : Tested old n
         t .edges,
         store-edges old (t .store),
         count-map (λ (c : Change). c .adds) (changeAt s) (range (changeCount s)),
-        ap (λ (j : ℕ). count (addsIn s) (range j)) (t .changes),
+        ap (λ (j : ℕ). countIf (addsIn s) (range j)) (t .changes),
       )
 
-  pub enough-edges : k ≤ m + 2 * count (addsIn s) (range k)
+  pub enough-edges : k ≤ m + 2 * countIf (addsIn s) (range k)
   enough-edges = omega (arith, size)
 
-  pub edges-are : {e : ℕ} → e + k ≡ m + 2 * count (addsIn s) (range k) → e ≡ length (editedGraph old s .edges)
+  pub edges-are : {e : ℕ} → e + k ≡ m + 2 * countIf (addsIn s) (range k) → e ≡ length (editedGraph old s .edges)
   edges-are q = omega (arith, size)
 
 -- ---- accepted

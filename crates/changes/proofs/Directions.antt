@@ -6,7 +6,7 @@ use Prim.Native.Nat.{ℕ, _*_, _≤_, _<_}
 use lib.Dec.{eqb, ltb}
 use lib.ListN.{length}
 use borrow.Author.Tests.{lt-ltb}
-use Rattle.lists.specs.Lists.{range, all, count, ascending, sort}
+use Rattle.lists.specs.Lists.{range, all, countIf, ascending, sort}
 use Rattle.lists.proofs.All.{all-follows}
 use Rattle.lists.proofs.Count.{all-map}
 use Rattle.lists.proofs.Sort.{all-sort, sort-ascending}
@@ -55,7 +55,7 @@ module _ (g : Graph) (cs : List Change) (h : Applied g cs) where
       sym (map-map (key backward) (λ (c : Change). c .edge) cs) ∙ edges-other (g .vertices) few edges edges-fit
       ∙ ap (map otherKey) (map-map (key forward) (λ (c : Change). c .edge) cs)
 
-  pub back-once : (x : ℕ) → count (λ (y : ℕ). eqb y x) (map (keyOf backward) cs) ≤ 1
+  pub back-once : (x : ℕ) → countIf (λ (y : ℕ). eqb y x) (map (keyOf backward) cs) ≤ 1
   back-once x = rw back-changes (others-once (map changeKey cs) fit-changes (h .changes-ascend) x)
 
   pub applied-ascend : (d : Direction) → ascending (sort (map (keyOf d) cs)) ≡ true

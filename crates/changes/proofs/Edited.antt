@@ -7,7 +7,7 @@ use native.Mathlib.Omega.{arith}
 use lib.Dec.{eqb, ltb}
 use lib.ListN.{length}
 use borrow.Author.Tests.{eqb-true, ne-eqb, ltb-true}
-use Rattle.lists.specs.Lists.{bit, all, any, keep, count, ascending}
+use Rattle.lists.specs.Lists.{bit, all, any, keep, countIf, ascending}
 use Rattle.lists.proofs.Tests.{and-l, and-r, eqb-sym, clash, not-true}
 use Rattle.lists.proofs.All.{all-true}
 use Rattle.lists.proofs.Any.{any-fails}
@@ -20,32 +20,32 @@ use Rattle.merge.proofs.Toggles.{toggle-absent, toggle-present, ascending-toggl
 
 -- ---- what a list counts of one number
 
-pub any-count : (p : ℕ → Bool) (xs : List ℕ) → any p xs ≡ true → 0 < count p xs
-unfolding any count
+pub any-count : (p : ℕ → Bool) (xs : List ℕ) → any p xs ≡ true → 0 < countIf p xs
+unfolding any countIf
 any-count p [] e = clash e refl
 any-count p (x ∷ xs) e = go (p x) (any-count p xs) e
   where
-    go : (b : Bool) → (any p xs ≡ true → 0 < count p xs) → (b || any p xs) ≡ true → 0 < bit b + count p xs
+    go : (b : Bool) → (any p xs ≡ true → 0 < countIf p xs) → (b || any p xs) ≡ true → 0 < bit b + countIf p xs
     go true f i = omega arith
     go false f i = omega (arith, f i)
 
-pub none-count : (p : ℕ → Bool) (xs : List ℕ) → any p xs ≡ false → count p xs ≡ 0
-unfolding any count
+pub none-count : (p : ℕ → Bool) (xs : List ℕ) → any p xs ≡ false → countIf p xs ≡ 0
+unfolding any countIf
 none-count p [] e = refl
 none-count p (x ∷ xs) e = go (p x) (none-count p xs) e
   where
-    go : (b : Bool) → (any p xs ≡ false → count p xs ≡ 0) → (b || any p xs) ≡ false → bit b + count p xs ≡ 0
+    go : (b : Bool) → (any p xs ≡ false → countIf p xs ≡ 0) → (b || any p xs) ≡ false → bit b + countIf p xs ≡ 0
     go true f i = clash refl i
     go false f i = omega (arith, f i)
 
-pub length-count : (xs : List ℕ) → count (λ (x : ℕ). true) xs ≡ length xs
+pub length-count : (xs : List ℕ) → countIf (λ (x : ℕ). true) xs ≡ length xs
 length-count xs = count-all (λ (x : ℕ). true) xs (all-true xs)
 
 -- ---- one change after another
 
 -- How many of the changes add.
 abbrev pub additions : List Change → ℕ
-additions cs = count (λ (c : Change). c .adds) cs
+additions cs = countIf (λ (c : Change). c .adds) cs
 
 module _ (ks : List ℕ) (rising : ascending ks ≡ true) where
   -- The old keys that stay, and the keys that are added.
@@ -55,7 +55,7 @@ module _ (ks : List ℕ) (rising : ascending ks ≡ true) where
   added : List Change → List ℕ
   added cs = map changeKey (keep (λ (c : Change). c .adds) cs)
 
-  edited-count : (p : ℕ → Bool) (cs : List Change) → count p (editedKeys ks cs) ≡ count p (kept cs) + count p (added cs)
+  edited-count : (p : ℕ → Bool) (cs : List Change) → countIf p (editedKeys ks cs) ≡ countIf p (kept cs) + countIf p (added cs)
   unfolding editedKeys kept added
   edited-count p cs = count-sort p _ ∙ count-append p _ _
 
@@ -76,7 +76,7 @@ module _ (ks : List ℕ) (rising : ascending ks ≡ true) where
         none true = refl
         none false = refl
 
-    not-added : count (λ (k : ℕ). eqb k y) (added cs) ≡ 0
+    not-added : countIf (λ (k : ℕ). eqb k y) (added cs) ≡ 0
     unfolding added
     not-added =
         count-map (λ (k : ℕ). eqb k y) changeKey (keep (λ (c : Change). c .adds) cs)
@@ -89,7 +89,7 @@ module _ (ks : List ℕ) (rising : ascending ks ≡ true) where
         none false = refl
 
     -- So it counts as in the old keys.
-    counts-as : count (λ (k : ℕ). eqb k y) (kept cs) + count (λ (k : ℕ). eqb k y) (added cs) ≡ count (λ (k : ℕ). eqb k y) ks
+    counts-as : countIf (λ (k : ℕ). eqb k y) (kept cs) + countIf (λ (k : ℕ). eqb k y) (added cs) ≡ countIf (λ (k : ℕ). eqb k y) ks
     unfolding kept
     counts-as =
         ap₂ (λ (a b : ℕ). a + b)
@@ -107,8 +107,8 @@ module _ (ks : List ℕ) (rising : ascending ks ≡ true) where
             none false = refl
 
     -- Taking it as well leaves one less of it.
-    taken-too : 0 < count (λ (k : ℕ). eqb k y) ks → (p : ℕ → Bool)
-        → count p (keep (λ (k : ℕ). not (eqb y k || taken cs k)) ks) + bit (p y) ≡ count p (kept cs)
+    taken-too : 0 < countIf (λ (k : ℕ). eqb k y) ks → (p : ℕ → Bool)
+        → countIf p (keep (λ (k : ℕ). not (eqb y k || taken cs k)) ks) + bit (p y) ≡ countIf p (kept cs)
     unfolding kept
     taken-too present p =
         omega (
@@ -120,7 +120,7 @@ module _ (ks : List ℕ) (rising : ascending ks ≡ true) where
           once (p y),
         )
       where
-        once : (b : Bool) → cond b (count (λ (k : ℕ). eqb k y) ks) 0 ≡ bit b
+        once : (b : Bool) → cond b (countIf (λ (k : ℕ). eqb k y) ks) 0 ≡ bit b
         once true = omega (arith, ascending-once ks rising y)
         once false = refl
 
@@ -133,8 +133,8 @@ module _ (ks : List ℕ) (rising : ascending ks ≡ true) where
 
   -- Both count alike, whatever is counted.
   edited-alike : (cs : List Change) → ascending (map changeKey cs) ≡ true → all (applies ks) cs ≡ true → (p : ℕ → Bool)
-      → count p (kept cs) + count p (added cs) ≡ count p (toggled ks (map changeKey cs))
-  unfolding kept added toggled any keep count all ascending
+      → countIf p (kept cs) + countIf p (added cs) ≡ countIf p (toggled ks (map changeKey cs))
+  unfolding kept added toggled any keep countIf all ascending
   edited-alike [] a e p = omega (arith, count-keep p (λ (k : ℕ). true) ks)
   edited-alike (c ∷ cs) a e p =
       go (λ q. edited-alike cs (ascends-tail (changeKey c) (map changeKey cs) a) (and-r (applies ks c) (all (applies ks) cs) e) q)
@@ -149,23 +149,23 @@ module _ (ks : List ℕ) (rising : ascending ks ≡ true) where
       low : all (λ (k : ℕ). ltb y k) (map changeKey cs) ≡ true
       low = ascends-above y (map changeKey cs) a
 
-      go : ((q : ℕ → Bool) → count q (kept cs) + count q (added cs) ≡ count q rest) → (b : Bool)
+      go : ((q : ℕ → Bool) → countIf q (kept cs) + countIf q (added cs) ≡ countIf q rest) → (b : Bool)
           → cond b (not (any (λ (k : ℕ). eqb k y) ks)) (any (λ (k : ℕ). eqb k y) ks) ≡ true
-          → count p (keep (λ (k : ℕ). not (not b && eqb y k || taken cs k)) ks)
-          + count p (map changeKey (cond b (c ∷ keep (λ (d : Change). d .adds) cs) (keep (λ (d : Change). d .adds) cs)))
-          ≡ count p (toggle y rest)
+          → countIf p (keep (λ (k : ℕ). not (not b && eqb y k || taken cs k)) ks)
+          + countIf p (map changeKey (cond b (c ∷ keep (λ (d : Change). d .adds) cs) (keep (λ (d : Change). d .adds) cs)))
+          ≡ countIf p (toggle y rest)
       go alike true i =
-          let here : count (λ (k : ℕ). eqb k y) rest ≡ count (λ (k : ℕ). eqb k y) ks = sym (alike (λ (k : ℕ). eqb k y)) ∙ counts-as y cs low in
+          let here : countIf (λ (k : ℕ). eqb k y) rest ≡ countIf (λ (k : ℕ). eqb k y) ks = sym (alike (λ (k : ℕ). eqb k y)) ∙ counts-as y cs low in
           omega (arith, alike p, toggle-absent p y rest (here ∙ none-count (λ (k : ℕ). eqb k y) ks (not-true _ i)))
       go alike false i =
-          let here : count (λ (k : ℕ). eqb k y) rest ≡ count (λ (k : ℕ). eqb k y) ks = sym (alike (λ (k : ℕ). eqb k y)) ∙ counts-as y cs low in
-          let present : 0 < count (λ (k : ℕ). eqb k y) ks = any-count (λ (k : ℕ). eqb k y) ks i in
+          let here : countIf (λ (k : ℕ). eqb k y) rest ≡ countIf (λ (k : ℕ). eqb k y) ks = sym (alike (λ (k : ℕ). eqb k y)) ∙ counts-as y cs low in
+          let present : 0 < countIf (λ (k : ℕ). eqb k y) ks = any-count (λ (k : ℕ). eqb k y) ks i in
           omega (arith, alike p, taken-too y cs low present p, toggle-present p y rest (ascending-toggled ks (map changeKey cs) rising) (rw here present))
 
   -- Each addition is one edge more, each other change one less.
   pub edited-size : (cs : List Change) → ascending (map changeKey cs) ≡ true → all (applies ks) cs ≡ true
       → length (toggled ks (map changeKey cs)) + length cs ≡ length ks + 2 * additions cs
-  unfolding toggled any count all ascending
+  unfolding toggled any countIf all ascending
   edited-size [] a e = omega arith
   edited-size (c ∷ cs) a e =
       go (edited-size cs below others) (c .adds) (and-l (applies ks c) (all (applies ks) cs) e)
@@ -182,7 +182,7 @@ module _ (ks : List ℕ) (rising : ascending ks ≡ true) where
       others : all (applies ks) cs ≡ true
       others = and-r (applies ks c) (all (applies ks) cs) e
 
-      here : count (λ (k : ℕ). eqb k y) rest ≡ count (λ (k : ℕ). eqb k y) ks
+      here : countIf (λ (k : ℕ). eqb k y) rest ≡ countIf (λ (k : ℕ). eqb k y) ks
       here = sym (edited-alike cs below others (λ (k : ℕ). eqb k y)) ∙ counts-as y cs (ascends-above y (map changeKey cs) a)
 
       go : length rest + length cs ≡ length ks + 2 * additions cs → (b : Bool)
@@ -196,7 +196,7 @@ module _ (ks : List ℕ) (rising : ascending ks ≡ true) where
             toggle-absent (λ (k : ℕ). true) y rest (here ∙ none-count (λ (k : ℕ). eqb k y) ks (not-true _ i)),
           )
       go ih false i =
-          let present : 0 < count (λ (k : ℕ). eqb k y) ks = any-count (λ (k : ℕ). eqb k y) ks i in
+          let present : 0 < countIf (λ (k : ℕ). eqb k y) ks = any-count (λ (k : ℕ). eqb k y) ks i in
           omega (
             arith,
             length-count rest,
@@ -205,7 +205,7 @@ module _ (ks : List ℕ) (rising : ascending ks ≡ true) where
           )
 
   module _ (cs : List Change) (a : ascending (map changeKey cs) ≡ true) (e : all (applies ks) cs ≡ true) where
-    edited-same : (p : ℕ → Bool) → count p (editedKeys ks cs) ≡ count p (toggled ks (map changeKey cs))
+    edited-same : (p : ℕ → Bool) → countIf p (editedKeys ks cs) ≡ countIf p (toggled ks (map changeKey cs))
     edited-same p = edited-count p cs ∙ edited-alike cs a e p
 
     pub edited-toggled : editedKeys ks cs ≡ toggled ks (map changeKey cs)

@@ -11,12 +11,12 @@ use Rattle.graph.specs.inner.Encode.{encode}
 use Rattle.graph.proofs.WellFormed.{formed-well}
 use Rattle.graph.proofs.EncodeGraph.{encode-bytes, encode-accepted, encode-read}
 use Rattle.graph.proofs.Loads.{load-fits, load-store, load-accepted}
-use Rattle.changes.specs.Edit.{editedGraph, applyFault, changedStore}
+use Rattle.changes.specs.Edit.{editedGraph, changedStore}
 use Rattle.changes.specs.Claims.{LoadsEdited}
 use Rattle.changes.proofs.Filled.{new-formed}
 use Rattle.changes.proofs.Answers.{accepted-all, size-fits, store-is}
 
-pub loads-edited : (old s store : List ℕ) → applyFault old s (length store) ≡ 0 → LoadsEdited old s store
+pub loads-edited : (old s store : List ℕ) → LoadsEdited old s store
 loads-edited old s store z =
     record {
       file = encode new;

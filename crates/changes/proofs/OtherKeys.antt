@@ -6,7 +6,7 @@ use Prim.Native.Nat.{ℕ, _+_, _*_, _/_, _%_, _≤_, _<_}
 use native.Mathlib.Omega.{arith}
 use lib.Dec.{eqb, ltb}
 use borrow.Author.Tests.{eqb-true, eq-eqb, ne-eqb, ltb-true, lt-ltb, ltb-false}
-use Rattle.lists.specs.Lists.{all, count, ascending, sort}
+use Rattle.lists.specs.Lists.{all, countIf, ascending, sort}
 use Rattle.lists.proofs.Tests.{iff}
 use Rattle.lists.proofs.All.{all-follows}
 use Rattle.lists.proofs.Count.{count-map, count-under, count-passes, all-map}
@@ -53,10 +53,10 @@ other-back k t =
 
 -- How often a number stands among the other keys.
 other-count : (xs : List ℕ) → all keyFits xs ≡ true → (k : ℕ)
-    → count (λ (x : ℕ). eqb x k) (map otherKey xs) ≡ cond (keyFits k) (count (λ (x : ℕ). eqb x (otherKey k)) xs) 0
+    → countIf (λ (x : ℕ). eqb x k) (map otherKey xs) ≡ cond (keyFits k) (countIf (λ (x : ℕ). eqb x (otherKey k)) xs) 0
 other-count xs e k = count-map (λ (x : ℕ). eqb x k) otherKey xs ∙ go (keyFits k) refl
   where
-    go : (b : Bool) → keyFits k ≡ b → count (λ (x : ℕ). eqb (otherKey x) k) xs ≡ cond b (count (λ (x : ℕ). eqb x (otherKey k)) xs) 0
+    go : (b : Bool) → keyFits k ≡ b → countIf (λ (x : ℕ). eqb (otherKey x) k) xs ≡ cond b (countIf (λ (x : ℕ). eqb x (otherKey k)) xs) 0
     go true t =
         count-under keyFits (λ (x : ℕ). eqb (otherKey x) k) (λ (x : ℕ). eqb x (otherKey k)) xs e
         (λ x u.
@@ -69,10 +69,10 @@ other-count xs e k = count-map (λ (x : ℕ). eqb x k) otherKey xs ∙ go (keyFi
         ne-eqb (otherKey x) k
         (λ i. let l : otherKey x < 1099511627776 = ltb-true (otherKey x) 1099511627776 (other-fits x u) in let m : 1099511627776 ≤ k = ltb-false k 1099511627776 t in omega arith))
 
-pub others-once : (xs : List ℕ) → all keyFits xs ≡ true → ascending xs ≡ true → (k : ℕ) → count (λ (x : ℕ). eqb x k) (map otherKey xs) ≤ 1
+pub others-once : (xs : List ℕ) → all keyFits xs ≡ true → ascending xs ≡ true → (k : ℕ) → countIf (λ (x : ℕ). eqb x k) (map otherKey xs) ≤ 1
 others-once xs e up k = rw (other-count xs e k) (go (keyFits k))
   where
-    go : (b : Bool) → cond b (count (λ (x : ℕ). eqb x (otherKey k)) xs) 0 ≤ 1
+    go : (b : Bool) → cond b (countIf (λ (x : ℕ). eqb x (otherKey k)) xs) 0 ≤ 1
     go true = ascending-once xs up (otherKey k)
     go false = omega arith
 
@@ -80,16 +80,16 @@ pub others-ascend : (xs : List ℕ) → all keyFits xs ≡ true → ascending xs
 others-ascend xs e up = sort-ascends (map otherKey xs) (others-once xs e up)
 
 module _ (ks cs : List ℕ) (e : all keyFits ks ≡ true) (f : all keyFits cs ≡ true) (up : ascending ks ≡ true) (rise : ascending cs ≡ true) where
-  alike : (k : ℕ) → count (λ (x : ℕ). eqb x k) (toggled (sort (map otherKey ks)) (sort (map otherKey cs)))
-      ≡ count (λ (x : ℕ). eqb x k) (sort (map otherKey (toggled ks cs)))
+  alike : (k : ℕ) → countIf (λ (x : ℕ). eqb x k) (toggled (sort (map otherKey ks)) (sort (map otherKey cs)))
+      ≡ countIf (λ (x : ℕ). eqb x k) (sort (map otherKey (toggled ks cs)))
   alike k =
       toggled-count (sort (map otherKey ks)) (sort (map otherKey cs)) (others-ascend ks e up) (others-ascend cs f rise) k
       ∙ ap₂ turnedBy (count-sort _ (map otherKey cs) ∙ other-count cs f k) (count-sort _ (map otherKey ks) ∙ other-count ks e k)
       ∙ go (keyFits k)
       ∙ sym (count-sort _ (map otherKey (toggled ks cs)) ∙ other-count (toggled ks cs) (all-toggled keyFits ks cs e f) k)
     where
-      go : (b : Bool) → turnedBy (cond b (count (λ (x : ℕ). eqb x (otherKey k)) cs) 0) (cond b (count (λ (x : ℕ). eqb x (otherKey k)) ks) 0)
-          ≡ cond b (count (λ (x : ℕ). eqb x (otherKey k)) (toggled ks cs)) 0
+      go : (b : Bool) → turnedBy (cond b (countIf (λ (x : ℕ). eqb x (otherKey k)) cs) 0) (cond b (countIf (λ (x : ℕ). eqb x (otherKey k)) ks) 0)
+          ≡ cond b (countIf (λ (x : ℕ). eqb x (otherKey k)) (toggled ks cs)) 0
       go true = sym (toggled-count ks cs up rise (otherKey k))
       go false = refl
 

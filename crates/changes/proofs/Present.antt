@@ -8,7 +8,7 @@ use native.Mathlib.Omega.{arith}
 use lib.Dec.{eqb, ltb}
 use lib.ListN.{length}
 use borrow.Author.Tests.{eqb-true, eq-eqb, ltb-true, lt-ltb}
-use Rattle.lists.specs.Lists.{bit, range, all, any, count, ascending}
+use Rattle.lists.specs.Lists.{bit, range, all, any, countIf, ascending}
 use Rattle.lists.specs.Refusal.{refuse}
 use Rattle.lists.proofs.Tests.{iff, and-l, and-r, and-both, not-false, clash}
 use Rattle.lists.proofs.All.{all-append, all-at, all-range}
@@ -178,10 +178,10 @@ applying-all {g} {s} h e = rw (all-map (applies (keysOf g)) (changeAt s) (range 
 
 -- ---- how many add
 
-pub count-zero : (p : ℕ → Bool) → 0 ≡ count p (range 0)
-unfolding count range
+pub count-zero : (p : ℕ → Bool) → 0 ≡ countIf p (range 0)
+unfolding countIf range
 count-zero p = refl
 
-pub count-next : (p : ℕ → Bool) (i : ℕ) → count p (range (suc i)) ≡ count p (range i) + bit (p i)
+pub count-next : (p : ℕ → Bool) (i : ℕ) → countIf p (range (suc i)) ≡ countIf p (range i) + bit (p i)
 unfolding range
 count-next p i = count-snoc p (range i) i

@@ -20,7 +20,7 @@ use Rattle.graph.proofs.Parts.{length-store}
 use Rattle.graph.proofs.Loads.{store-formed}
 use Rattle.change_file.specs.File.{Change, changesOf, changeFault}
 use Rattle.changes.specs.Edit.{keyEdge, keysOf, editedKeys, applies, applyChanges, editFault, editedGraph, applyFault, changedStore}
-use Rattle.changes.specs.Claims.{LoadsEdited, turned, ReverseOf, Reverses}
+use Rattle.changes.specs.Claims.{AsLoaded, turned, ReverseOf, Undone, Reverses}
 use Rattle.changes.proofs.EditedGraph.{Applied, edge-key, key-edge, applied-keys}
 use Rattle.changes.proofs.Filled.{applied}
 use Rattle.changes.proofs.Answers.{accepted-all, store-is}
@@ -32,7 +32,7 @@ module _ (old s store : List ℕ) (z : applyFault old s (length store) ≡ 0) wh
   can : Applied (graphIn old) (changesOf s)
   can = applied (accepted-all old s (length store) z refl refl refl)
 
-  loaded : LoadsEdited old s store
+  loaded : AsLoaded old s store
   loaded = loads-edited old s store z
 
   new-keys : keysOf (editedGraph old s) ≡ editedKeys (keysOf (graphIn old)) (changesOf s)
@@ -105,5 +105,8 @@ module _ (old s store : List ℕ) (z : applyFault old s (length store) ≡ 0) wh
         ∙ take-at (storeOf (graphIn old)) (drop size last) size (length-store (graphIn old) (can .formed .described))
         ∙ sym (store-formed old (accepted-all old s (length store) z refl refl refl .store) .1)
 
-  pub reverses : Reverses old s store
-  reverses = record { one = one-back; refused = fault-is; words = words-back }
+  undone : Undone old s store
+  undone = record { one = one-back; refused = fault-is; words = words-back }
+
+pub reverses : (old s store : List ℕ) → Reverses old s store
+reverses old s store z = undone old s store z

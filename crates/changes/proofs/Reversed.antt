@@ -5,7 +5,7 @@ use mathlib.Core.List.{List, map, map-map}
 use Prim.Native.Nat.{ℕ, zero, suc, _-_, _≤_, _<_}
 use native.Mathlib.Omega.{arith}
 use lib.Dec.{eqb, ltb}
-use Rattle.lists.specs.Lists.{all, any, count, ascending}
+use Rattle.lists.specs.Lists.{all, any, countIf, ascending}
 use Rattle.lists.proofs.Tests.{eqb-refl}
 use Rattle.lists.proofs.All.{all-mem, mem-all}
 use Rattle.lists.proofs.Any.{any-count}
@@ -21,13 +21,13 @@ use Rattle.changes.proofs.Edited.{edited-toggled}
 
 module _ (ks cs : List ℕ) (up : ascending ks ≡ true) (rise : ascending cs ≡ true) where
   -- Toggled twice, every number counts as before.
-  twice : (k : ℕ) → count (λ (z : ℕ). eqb z k) (toggled (toggled ks cs) cs) ≡ count (λ (z : ℕ). eqb z k) ks
+  twice : (k : ℕ) → countIf (λ (z : ℕ). eqb z k) (toggled (toggled ks cs) cs) ≡ countIf (λ (z : ℕ). eqb z k) ks
   twice k =
       toggled-count (toggled ks cs) cs (ascending-toggled ks cs up) rise k ∙ ap (turnedBy n) (toggled-count ks cs up rise k)
-      ∙ back n (count (λ (z : ℕ). eqb z k) ks) (ascending-once ks up k)
+      ∙ back n (countIf (λ (z : ℕ). eqb z k) ks) (ascending-once ks up k)
     where
       n : ℕ
-      n = count (λ (y : ℕ). eqb y k) cs
+      n = countIf (λ (y : ℕ). eqb y k) cs
 
       back : (n c : ℕ) → c ≤ 1 → turnedBy n (turnedBy n c) ≡ c
       back zero c l = refl
@@ -37,11 +37,11 @@ module _ (ks cs : List ℕ) (up : ascending ks ≡ true) (rise : ascending cs �
   toggled-twice = ascending-same _ ks (ascending-toggled (toggled ks cs) cs (ascending-toggled ks cs up)) up twice
 
   -- A number of the list is present after it where it was absent before, and the other way round.
-  pub presence-turns : (k : ℕ) → 0 < count (λ (y : ℕ). eqb y k) cs → any (λ (z : ℕ). eqb z k) (toggled ks cs) ≡ not (any (λ (z : ℕ). eqb z k) ks)
+  pub presence-turns : (k : ℕ) → 0 < countIf (λ (y : ℕ). eqb y k) cs → any (λ (z : ℕ). eqb z k) (toggled ks cs) ≡ not (any (λ (z : ℕ). eqb z k) ks)
   presence-turns k h =
-      let one : count (λ (y : ℕ). eqb y k) cs ≡ 1 = omega (arith, ascending-once cs rise k) in
+      let one : countIf (λ (y : ℕ). eqb y k) cs ≡ 1 = omega (arith, ascending-once cs rise k) in
       any-count (λ (z : ℕ). eqb z k) (toggled ks cs)
-      ∙ rw (toggled-count ks cs up rise k, one) (turns (count (λ (z : ℕ). eqb z k) ks) (ascending-once ks up k))
+      ∙ rw (toggled-count ks cs up rise k, one) (turns (countIf (λ (z : ℕ). eqb z k) ks) (ascending-once ks up k))
       ∙ ap not (sym (any-count (λ (z : ℕ). eqb z k) ks))
     where
       turns : (n : ℕ) → n ≤ 1 → ltb 0 (1 - n) ≡ not (ltb 0 n)

@@ -7,7 +7,7 @@ use native.Mathlib.Omega.{arith}
 use lib.Dec.{ltb}
 use lib.ListN.{length-map}
 use borrow.Author.Tests.{lt-ltb}
-use Rattle.lists.specs.Lists.{range, all, count}
+use Rattle.lists.specs.Lists.{range, all, countIf}
 use Rattle.lists.proofs.All.{all-follows}
 use Rattle.lists.proofs.Count.{all-map}
 use Rattle.lists.proofs.Sort.{all-sort, length-sort}
@@ -67,7 +67,7 @@ pub side-words : (g : Graph) → WellFormed g → (d : Direction) → sideWords 
 unfolding sideWords offsets entries
 side-words g w d =
     ap (λ (l : List ℕ). l ++ map (λ (k : ℕ). k % 16777216) (sortedKeys d g))
-    (image-ext (λ (v : ℕ). count (λ (k : ℕ). ltb k (v * 16777216)) (sortedKeys d g)) (λ (v : ℕ). count (λ (e : Edge). ltb (near d e) v) (g .edges)) (suc (g .vertices))
+    (image-ext (λ (v : ℕ). countIf (λ (k : ℕ). ltb k (v * 16777216)) (sortedKeys d g)) (λ (v : ℕ). countIf (λ (e : Edge). ltb (near d e) v) (g .edges)) (suc (g .vertices))
     (λ v l. sym (keys-below g w d v)))
 
 -- The changes of the forward side, as the file has them.

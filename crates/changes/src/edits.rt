@@ -3,7 +3,7 @@ ghost use mathlib.Core.Path.{_≡_};
 ghost use mathlib.Core.Bool.{true};
 ghost use Prim.Native.Nat.{_≤_, _<_};
 ghost use lib.Dec.{eqb};
-ghost use Rattle.lists.specs.Lists.{bit, any, ascending, range, count};
+ghost use Rattle.lists.specs.Lists.{bit, any, ascending, range, countIf};
 ghost use Rattle.search.specs.inner.Search.{firstFrom};
 ghost use Rattle.graph.specs.Store.{graphIn};
 ghost use Rattle.change_file.specs.File.{changeCount, addsIn, changesOf};
@@ -69,7 +69,7 @@ pub fn edits_fault(old: &[u32], n: usize, at: usize, file: &[u8], k: usize) -> u
 // How many of the changes add.
 pub fn additions(file: &[u8], k: usize) -> usize
     requires { ⌜ Sized (now file) × (k ≡ changeCount (now file)) ⌝ }
-    ensures { λ r. ⌜ (r ≡ count (addsIn (now (file .entry))) (range k)) × (r ≤ k) ⌝ }
+    ensures { λ r. ⌜ (r ≡ countIf (addsIn (now (file .entry))) (range k)) × (r ≤ k) ⌝ }
 {
     let mut sum = 0;
     let mut i = 0;

@@ -72,7 +72,11 @@ fn fill_head(old: &[u32], n: usize, m: usize, store: &mut [u32])
     requires { ⌜ HeadKept (now old) n m (length (now store)) ⌝ }
     ensures { λ _. ⌜ now (store .exit) ≡ (n ∷ m ∷ take (2 * n) (drop 2 (now (old .entry)))) ++ drop (2 + 2 * n) (now (store .entry)) ⌝ }
 {
-    words::copy(&old[Graph::LABELS..], 2 * n, &mut store[Graph::LABELS..]);
+    words::copy(
+        &old[Graph::LABELS_AT..],
+        2 * n,
+        &mut store[Graph::LABELS_AT..],
+    );
     store[0] = n as u32;
     store[1] = m as u32;
 }

@@ -2,7 +2,7 @@
 ghost use mathlib.Core.Path.{_≡_};
 ghost use Prim.Native.Nat.{suc, _+_, _*_, _≤_, _<_};
 ghost use lib.ListN.{length};
-ghost use Rattle.lists.specs.Lists.{range, count};
+ghost use Rattle.lists.specs.Lists.{range, countIf};
 ghost use Rattle.graph.specs.Graph.{maxGraphEdges};
 ghost use Rattle.change_file.specs.File.{changeCount, addsIn};
 ghost use Rattle.changes.specs.Edit.{applyFault, applyAnswer, changedStore};
@@ -16,8 +16,8 @@ mod fill;
 // How many edges there are after k changes to m: one more for each addition, one less for each other change.
 fn edited_edges(file: &[u8], k: usize, m: usize) -> usize
     requires { ⌜ Sized (now file) × (k ≡ changeCount (now file)) × (m < suc maxGraphEdges) ⌝ }
-    requires { ⌜ k ≤ m + 2 * count (addsIn (now file)) (range k) ⌝ }
-    ensures { λ r. ⌜ r + k ≡ m + 2 * count (addsIn (now (file .entry))) (range k) ⌝ }
+    requires { ⌜ k ≤ m + 2 * countIf (addsIn (now file)) (range k) ⌝ }
+    ensures { λ r. ⌜ r + k ≡ m + 2 * countIf (addsIn (now (file .entry))) (range k) ⌝ }
 {
     m + 2 * edits::additions(file, k) - k
 }

@@ -6,7 +6,7 @@ use Prim.Native.Nat.{ℕ, suc, _+_, _*_, _/_, _%_, _≤_, _<_}
 use native.Mathlib.Omega.{arith}
 use lib.Dec.{eqb, ltb}
 use borrow.Author.Tests.{eqb-true, eq-eqb, ltb-true, lt-ltb, le-ltb, ltb-false}
-use Rattle.lists.specs.Lists.{count, ascending, sort}
+use Rattle.lists.specs.Lists.{countIf, ascending, sort}
 use Rattle.lists.proofs.Tests.{iff, and-l, and-r, not-true}
 use Rattle.lists.proofs.Count.{count-map, count-under, count-mono}
 use Rattle.lists.proofs.Sort.{ascending-once, sort-ascending, sort-ascends, count-sort}
@@ -92,26 +92,26 @@ sortedKeys d g = sort (map (key d) (g .edges))
 
 module _ (g : Graph) (w : WellFormed g) (d : Direction) where
   -- No two edges have one key, since no two have one forward key.
-  keys-once : (k : ℕ) → count (λ (j : ℕ). eqb j k) (map (key d) (g .edges)) ≤ 1
+  keys-once : (k : ℕ) → countIf (λ (j : ℕ). eqb j k) (map (key d) (g .edges)) ≤ 1
   keys-once k = omega (arith, count-map (is k) (key d) (g .edges), fewer, count-map (is (forwardKey d k)) (key forward) (g .edges), once)
     where
       is : ℕ → ℕ → Bool
       is k j = eqb j k
 
-      fewer : count (λ (e : Edge). is k (key d e)) (g .edges) ≤ count (λ (e : Edge). is (forwardKey d k) (key forward e)) (g .edges)
+      fewer : countIf (λ (e : Edge). is k (key d e)) (g .edges) ≤ countIf (λ (e : Edge). is (forwardKey d k) (key forward e)) (g .edges)
       fewer =
           count-mono (fitting (g .vertices)) (λ (e : Edge). is k (key d e)) (λ (e : Edge). is (forwardKey d k) (key forward e)) (g .edges)
           (w .edges-fit)
           (λ e t i. eq-eqb (key forward e) (forwardKey d k) (sym (forward-key g w d e t) ∙ ap (forwardKey d) (eqb-true (key d e) k i)))
 
-      once : count (is (forwardKey d k)) (map (key forward) (g .edges)) ≤ 1
+      once : countIf (is (forwardKey d k)) (map (key forward) (g .edges)) ≤ 1
       once = ascending-once (map (key forward) (g .edges)) (w .edges-ascend) (forwardKey d k)
 
   pub keys-ascend : ascending (sortedKeys d g) ≡ true
   keys-ascend = sort-ascends (map (key d) (g .edges)) keys-once
 
   -- The offset of a vertex is the number of sorted keys below its first.
-  pub keys-below : (v : ℕ) → count (λ (e : Edge). ltb (near d e) v) (g .edges) ≡ count (λ (k : ℕ). ltb k (v * 16777216)) (sortedKeys d g)
+  pub keys-below : (v : ℕ) → countIf (λ (e : Edge). ltb (near d e) v) (g .edges) ≡ countIf (λ (k : ℕ). ltb k (v * 16777216)) (sortedKeys d g)
   keys-below v =
       count-under (fitting (g .vertices)) (λ (e : Edge). ltb (near d e) v) (λ (e : Edge). low (key d e)) (g .edges) (w .edges-fit)
       (λ e t. sym (key-below g w d e t v))

@@ -8,7 +8,7 @@ use native.Mathlib.Omega.{arith}
 use lib.Dec.{ltb}
 use lib.ListN.{length, getD, drop, length-append, length-map, List·getD-append, drop-of-length-le}
 use lib.Seq.{drop-at, drop-append-add, drop-append-le, drop-drop, getD-drop}
-use Rattle.lists.specs.Lists.{range, count, sort}
+use Rattle.lists.specs.Lists.{range, countIf, sort}
 use Rattle.lists.proofs.All.{length-range}
 use Rattle.lists.proofs.Sort.{length-sort}
 use Rattle.lists.proofs.Maps.{getD-image}
@@ -33,7 +33,7 @@ length-store g e =
 
 -- The offset of v in one direction.
 abbrev pub offset : Direction → Graph → ℕ → ℕ
-offset d g v = count (λ (e : Edge). ltb (near d e) v) (g .edges)
+offset d g v = countIf (λ (e : Edge). ltb (near d e) v) (g .edges)
 
 pub offset-at : (d : Direction) (g : Graph) (v : ℕ) → v ≤ g .vertices → getD (offsets d g) v 0 ≡ offset d g v
 unfolding offsets

@@ -8,7 +8,7 @@ use lib.Dec.{ltb}
 use lib.ListN.{length, take, drop}
 use lib.Seq.{take-at, drop-at}
 use borrow.Author.Tests.{eqb-true, lt-ltb}
-use Rattle.lists.specs.Lists.{_⇒_, range, keep, same}
+use Rattle.lists.specs.Lists.{_implies_, range, keep, same}
 use Rattle.lists.specs.Refusal.{refuse}
 use Rattle.lists.proofs.Tests.{and-l, and-r, and-both, imp-intro}
 use Rattle.lists.proofs.All.{all-follows, all-keep, keep-all}
@@ -34,7 +34,7 @@ module _ (g : Graph) (w : WellFormed g) where
       ∙ map-map (entryEdge v) (λ (e : Edge). entryIn (key forward e)) (keep at (g .edges))
       ∙ map-under (λ (e : Edge). fit e && at e) (λ (e : Edge). entryEdge v (entryIn (key forward e))) (λ (e : Edge). e) (keep at (g .edges))
       (all-keep (λ (e : Edge). fit e && at e) at (g .edges)
-      ∙ all-follows fit (λ (e : Edge). at e ⇒ (fit e && at e)) (g .edges) (w .edges-fit)
+      ∙ all-follows fit (λ (e : Edge). at e implies (fit e && at e)) (g .edges) (w .edges-fit)
       (λ e t. imp-intro (at e) (fit e && at e) (and-both (fit e) (at e) t)))
       (λ e t. told e (and-l (fit e) (at e) t) (and-r (fit e) (at e) t))
       ∙ map-id (keep at (g .edges))

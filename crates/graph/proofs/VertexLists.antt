@@ -9,7 +9,7 @@ use lib.Dec.{eqb}
 use borrow.Author.Tests.{eqb-true}
 use lib.ListN.{length, take, drop, length-drop}
 use lib.Seq.{take-append-le}
-use Rattle.lists.specs.Lists.{keep, count, ascending}
+use Rattle.lists.specs.Lists.{keep, countIf, ascending}
 use Rattle.lists.proofs.Count.{count-le, count-map, count-keep, count-under}
 use Rattle.lists.proofs.Sort.{ascending-keep, ascending-map, count-sort}
 use Rattle.lists.proofs.Maps.{take-map, drop-map}
@@ -64,9 +64,9 @@ module _ (g : Graph) (w : WellFormed g) (d : Direction) (v : ℕ) where
 
     -- and a test counts in it the edges at v whose entries pass.
     pub vertex-count : (p : ℕ → Bool)
-        → count p (listAt d g (storeOf g ++ rest) v) ≡ count (λ (e : Edge). eqb (near d e) v && p (entry d e)) (g .edges)
+        → countIf p (listAt d g (storeOf g ++ rest) v) ≡ countIf (λ (e : Edge). eqb (near d e) v && p (entry d e)) (g .edges)
     vertex-count p =
-        ap (count p) vertex-list ∙ count-map p entryIn (keep (keyAt v) (sortedKeys d g))
+        ap (countIf p) vertex-list ∙ count-map p entryIn (keep (keyAt v) (sortedKeys d g))
         ∙ count-keep (λ (k : ℕ). p (entryIn k)) (keyAt v) (sortedKeys d g)
         ∙ count-sort passes (map (key d) (g .edges)) ∙ count-map passes (key d) (g .edges)
         ∙ count-under (fitting (g .vertices)) (λ (e : Edge). passes (key d e)) (λ (e : Edge). eqb (near d e) v && p (entry d e))

@@ -4,7 +4,7 @@ use mathlib.Core.List.{List}
 use Prim.Native.Nat.{ℕ, _+_, _*_}
 use lib.Dec.{eqb}
 use lib.ListN.{getD}
-use Rattle.lists.specs.Lists.{any, count}
+use Rattle.lists.specs.Lists.{any, countIf}
 
 -- An edge of a label, of a graph or of a query.
 pub record Edge : Type 0 where
@@ -76,7 +76,7 @@ linked g l x y = any (λ (e : Edge). eqb (e .source) x && covers l (e .label) &&
 
 -- The length of a vertex's portion for a label, in one direction.
 unfoldable pub portionLength : Graph → Direction → ℕ → ℕ → ℕ
-portionLength g d l x = count (λ (e : Edge). eqb (near d e) x && covers l (e .label)) (g .edges)
+portionLength g d l x = countIf (λ (e : Edge). eqb (near d e) x && covers l (e .label)) (g .edges)
 
 -- A vertex's label in the graph file, and its inspection day: 'days since 1 January 2000, 0 for none'.
 abbrev pub labelOf : Graph → ℕ → ℕ

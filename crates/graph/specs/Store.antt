@@ -7,14 +7,14 @@ use mathlib.Core.List.{List, [], _∷_, _++_, map, flatMap}
 use Prim.Native.Nat.{ℕ, suc, _+_, _-_, _*_, _/_, _%_}
 use lib.Dec.{eqb, ltb}
 use lib.ListN.{length, getD, take, drop}
-use Rattle.lists.specs.Lists.{range, all, count, same, ascending, sort}
+use Rattle.lists.specs.Lists.{range, all, countIf, same, ascending, sort}
 use Rattle.lists.specs.Refusal.{refuse, first}
 use Rattle.graph.specs.Graph.{Edge, Graph, maxGraphVertices, maxGraphEdges, maxVertexLabel, maxDay, maxEdgeLabel, entrySpan, entryEnd, Direction, forward, backward, near, key}
 use Rattle.graph.specs.File.{graphOf, graphFault, badEdge}
 
 -- 'Offsets count entries from 0': how many edges have their near end below a vertex, for each vertex and one past the last.
 unfoldable pub offsets : Direction → Graph → List ℕ
-offsets d g = map (λ (v : ℕ). count (λ (e : Edge). ltb (near d e) v) (g .edges)) (range (suc (g .vertices)))
+offsets d g = map (λ (v : ℕ). countIf (λ (e : Edge). ltb (near d e) v) (g .edges)) (range (suc (g .vertices)))
 
 -- The entries of all vertices, 'ascending within a vertex'.
 unfoldable pub entries : Direction → Graph → List ℕ

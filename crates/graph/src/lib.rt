@@ -26,8 +26,10 @@ impl Graph {
     pub const MAX_DAY: u32 = 65535;
     // Edge labels are 1 to this.
     pub const MAX_EDGE_LABEL: usize = 255;
-    // The position of the labels.
-    pub const LABELS: usize = 2;
+    // How many values the 8 bits of an edge's label have, 0 among them.
+    pub const EDGE_LABELS: usize = Graph::MAX_EDGE_LABEL + 1;
+    // The position of the vertices' labels in a store.
+    pub const LABELS_AT: usize = 2;
     // An entry is label × SPAN + neighbour.
     pub const SPAN: u32 = 65536;
     // Entries are below this.
@@ -49,7 +51,7 @@ impl Graph {
         requires { ⌜ self .vertices ≤ 4294967295 ⌝ }
         ensures { λ r. ⌜ r ≡ 2 + self .vertices ⌝ }
     {
-        Graph::LABELS + self.vertices
+        Graph::LABELS_AT + self.vertices
     }
 
     // The position of the forward side.

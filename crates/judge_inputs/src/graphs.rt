@@ -21,10 +21,10 @@ const FIRST: usize = 3;
 const SHIFT: usize = 4;
 
 // How many edge labels are used.
-const EDGE_LABELS: usize = 5;
+const LABEL_COUNT: usize = 5;
 
 // Two bits of this word for each place choose its label, and two of the next its day.
-const LABELS: usize = 7;
+const LABEL_BITS: usize = 7;
 
 const DAYS: usize = 8;
 
@@ -63,7 +63,7 @@ pub fn vertex_label(word: usize, i: usize) -> usize {
 
 // The label of the vertex of a place.
 pub fn label(g: &Graph, k: usize) -> usize {
-    vertex_label(g[LABELS], k)
+    vertex_label(g[LABEL_BITS], k)
 }
 
 // The inspection day of the vertex of a place.
@@ -82,7 +82,7 @@ fn turn_edge(g: &mut Graph, cell: usize, percent: usize, seed: &mut u64) {
     let places = g[PLACES];
     let at = CELLS + cell % CELL_COUNT;
     let hub = (cell < 64) as usize;
-    if (places <= cell / 64) | (places <= cell % 16) | (g[EDGE_LABELS] <= cell / 16 % 4) {
+    if (places <= cell / 64) | (places <= cell % 16) | (g[LABEL_COUNT] <= cell / 16 % 4) {
         return;
     }
     if chance(seed, percent << (hub % 2)) {
@@ -115,9 +115,9 @@ fn spread(g: &mut Graph, seed: &mut u64) {
 pub fn draw(g: &mut Graph, places: usize, edge_labels: usize, percent: usize, seed: &mut u64) {
     *g = [0; WORDS];
     g[PLACES] = places;
-    g[EDGE_LABELS] = edge_labels;
+    g[LABEL_COUNT] = edge_labels;
     if chance(seed, 50) {
-        g[LABELS] = below(seed, 4294967296);
+        g[LABEL_BITS] = below(seed, 4294967296);
     }
     if chance(seed, 80) {
         g[DAYS] = below(seed, 4294967296);

@@ -14,7 +14,7 @@ pub const VERTICES: usize = 0;
 pub const EDGES: usize = 1;
 
 // Two bits of this word for each vertex choose its label.
-const LABELS: usize = 2;
+const LABEL_BITS: usize = 2;
 
 // How many vertices have an edge yet, and how many edges are listed yet.
 const JOINED: usize = 3;
@@ -81,7 +81,7 @@ pub fn edge(q: &Query, i: usize) -> usize {
 }
 
 pub fn label(q: &Query, v: usize) -> usize {
-    graphs::vertex_label(q[LABELS], v)
+    graphs::vertex_label(q[LABEL_BITS], v)
 }
 
 // The range of days of a vertex, as an index of the two lists below.
@@ -273,7 +273,7 @@ pub fn random(q: &mut Query, g: &Graph, seed: &mut u64) {
     let any = chance(seed, 25);
     *q = [0; WORDS];
     q[VERTICES] = random_vertices(g[graphs::PLACES], any, seed);
-    q[LABELS] = random_labels(seed);
+    q[LABEL_BITS] = random_labels(seed);
     q[RANGES] = random_ranges(q[VERTICES], seed);
     let mut row = [0; 8];
     join_vertices(q, g, &mut row, any, seed);

@@ -12,7 +12,7 @@ use borrow.Author.Tests.{eqb-true}
 use lib.ListN.{length, getD, take, length-append}
 use lib.Seq.{getD-append-seam, take-suc}
 use lib.ListN.{List·getD-append}
-use Rattle.lists.specs.Lists.{_⇒_, range, all, any, keep}
+use Rattle.lists.specs.Lists.{_implies_, range, all, any, keep}
 use Rattle.lists.proofs.Tests.{iff, and-l, and-r, and-both, or-intro-l, or-intro-r, imp-use, imp-intro, eqb-refl}
 
 module _ {A : Type 0} where
@@ -79,13 +79,13 @@ module _ {A : Type 0} where
       shuffle true false false d = refl
       shuffle false b c d = refl
 
-  pub all-keep : (p r : A → Bool) (xs : List A) → all p (keep r xs) ≡ all (λ x. r x ⇒ p x) xs
+  pub all-keep : (p r : A → Bool) (xs : List A) → all p (keep r xs) ≡ all (λ x. r x implies p x) xs
   unfolding all keep
   all-keep p r [] = refl
   all-keep p r (x ∷ xs) = go (r x) (all-keep p r xs)
     where
-      go : (b : Bool) → all p (keep r xs) ≡ all (λ y. r y ⇒ p y) xs
-          → all p (cond b (x ∷ keep r xs) (keep r xs)) ≡ ((b ⇒ p x) && all (λ y. r y ⇒ p y) xs)
+      go : (b : Bool) → all p (keep r xs) ≡ all (λ y. r y implies p y) xs
+          → all p (cond b (x ∷ keep r xs) (keep r xs)) ≡ ((b implies p x) && all (λ y. r y implies p y) xs)
       go true e = ap (λ (b : Bool). p x && b) e
       go false e = e
 
@@ -141,7 +141,7 @@ module _ {A : Type 0} where
 
   -- What is kept passes the test, and what all elements pass.
   pub all-kept : (s p r : A → Bool) (xs : List A) → all s xs ≡ true → ((x : A) → s x ≡ true → p x ≡ true → r x ≡ true) → all r (keep p xs) ≡ true
-  all-kept s p r xs e h = all-keep r p xs ∙ all-follows s (λ x. p x ⇒ r x) xs e (λ x t. imp-intro (p x) (r x) (h x t))
+  all-kept s p r xs e h = all-keep r p xs ∙ all-follows s (λ x. p x implies r x) xs e (λ x t. imp-intro (p x) (r x) (h x t))
 
   pub kept : (p : A → Bool) (xs : List A) → all p (keep p xs) ≡ true
   kept p xs = all-kept (λ x. true) p p xs (all-true xs) (λ x s t. t)
@@ -200,11 +200,11 @@ all-at p (suc n) e k h = go (λ (r : all p (range n) ≡ true). all-at p n r k) 
     go f (inr l) = f (and-l (all p (range n)) (p n && true) both) l
 
 -- Of the numbers below n only k passes an equality with k.
-pub all-range-one : (t : ℕ → Bool) (k n : ℕ) → k < n → all (λ (w : ℕ). eqb w k ⇒ t w) (range n) ≡ t k
+pub all-range-one : (t : ℕ → Bool) (k n : ℕ) → k < n → all (λ (w : ℕ). eqb w k implies t w) (range n) ≡ t k
 all-range-one t k n h =
-    iff (all (λ (w : ℕ). eqb w k ⇒ t w) (range n)) (t k)
-    (λ e. imp-use (eqb k k) (t k) (all-at (λ (w : ℕ). eqb w k ⇒ t w) n e k h) (eqb-refl k))
-    (λ e. all-range (λ (w : ℕ). eqb w k ⇒ t w) n (λ w l. imp-intro (eqb w k) (t w) (λ i. ap t (eqb-true w k i) ∙ e)))
+    iff (all (λ (w : ℕ). eqb w k implies t w) (range n)) (t k)
+    (λ e. imp-use (eqb k k) (t k) (all-at (λ (w : ℕ). eqb w k implies t w) n e k h) (eqb-refl k))
+    (λ e. all-range (λ (w : ℕ). eqb w k implies t w) n (λ w l. imp-intro (eqb w k) (t w) (λ i. ap t (eqb-true w k i) ∙ e)))
 
 -- Tests that agree below n agree on the numbers below n.
 pub all-range-ext : (p r : ℕ → Bool) (n : ℕ) → ((k : ℕ) → k < n → p k ≡ r k) → all p (range n) ≡ all r (range n)

@@ -8,21 +8,21 @@ use native.Mathlib.Nat.{eq-or-lt-of-le, le-of-suc-le-suc, not-suc-le-zero}
 use native.Mathlib.Omega.{arith}
 use lib.Dec.{ltb}
 use borrow.Author.Tests.{ltb-true, lt-ltb}
-use Rattle.lists.specs.Lists.{bit, range, all, any, keep, count}
+use Rattle.lists.specs.Lists.{bit, range, all, any, keep, countIf}
 use Rattle.lists.proofs.Tests.{clash, and-l, and-r, or-intro-l, or-intro-r, or-elim}
 use Rattle.lists.proofs.All.{all-true, all-range}
 use Rattle.lists.proofs.Count.{count-map, count-keep, count-under}
 use Rattle.lists.proofs.Maps.{image-suc}
 
 -- Some element passes where at least one does.
-pub any-count : {A : Type 0} (p : A → Bool) (xs : List A) → any p xs ≡ ltb 0 (count p xs)
-unfolding any count
+pub any-count : {A : Type 0} (p : A → Bool) (xs : List A) → any p xs ≡ ltb 0 (countIf p xs)
+unfolding any countIf
 any-count p [] = refl
 any-count p (x ∷ xs) = go (p x) (any-count p xs)
   where
-    go : (b : Bool) → any p xs ≡ ltb 0 (count p xs) → (b || any p xs) ≡ ltb 0 (bit b + count p xs)
-    go true e = sym (lt-ltb 0 (1 + count p xs) (omega arith))
-    go false e = e ∙ ap (ltb 0) (let z : count p xs ≡ 0 + count p xs = omega arith in z)
+    go : (b : Bool) → any p xs ≡ ltb 0 (countIf p xs) → (b || any p xs) ≡ ltb 0 (bit b + countIf p xs)
+    go true e = sym (lt-ltb 0 (1 + countIf p xs) (omega arith))
+    go false e = e ∙ ap (ltb 0) (let z : countIf p xs ≡ 0 + countIf p xs = omega arith in z)
 
 -- Tests that agree on each element that passes s agree on whether some element of a list of such elements passes.
 pub any-under : {A : Type 0} (s p r : A → Bool) (xs : List A) → all s xs ≡ true → ((x : A) → s x ≡ true → p x ≡ r x) → any p xs ≡ any r xs

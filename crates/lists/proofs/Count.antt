@@ -10,78 +10,78 @@ use native.Mathlib.Omega.{arith}
 use lib.Dec.{eqb, ltb}
 use lib.ListN.{length, getD, take}
 use borrow.Author.Tests.{eqb-true, ltb-true, lt-ltb, le-ltb}
-use Rattle.lists.specs.Lists.{bit, range, all, keep, count, total, largest}
+use Rattle.lists.specs.Lists.{bit, range, all, keep, countIf, total, largest}
 use Rattle.lists.proofs.All.{all-append}
 use Rattle.lists.proofs.Tests.{iff, and-l, and-r, and-turn, eqb-sym}
 
 module _ {A : Type 0} where
-  pub count-append : (p : A → Bool) (xs ys : List A) → count p (xs ++ ys) ≡ count p xs + count p ys
-  unfolding count
-  count-append p [] ys = sym (zero-add (count p ys))
+  pub count-append : (p : A → Bool) (xs ys : List A) → countIf p (xs ++ ys) ≡ countIf p xs + countIf p ys
+  unfolding countIf
+  count-append p [] ys = sym (zero-add (countIf p ys))
   count-append p (x ∷ xs) ys =
-      ap (λ (n : ℕ). bit (p x) + n) (count-append p xs ys) ∙ sym (add-assoc (bit (p x)) (count p xs) (count p ys))
+      ap (λ (n : ℕ). bit (p x) + n) (count-append p xs ys) ∙ sym (add-assoc (bit (p x)) (countIf p xs) (countIf p ys))
 
   -- Tests that agree on each element that passes s count the same in a list of such elements.
-  pub count-under : (s p r : A → Bool) (xs : List A) → all s xs ≡ true → ((x : A) → s x ≡ true → p x ≡ r x) → count p xs ≡ count r xs
-  unfolding all count
+  pub count-under : (s p r : A → Bool) (xs : List A) → all s xs ≡ true → ((x : A) → s x ≡ true → p x ≡ r x) → countIf p xs ≡ countIf r xs
+  unfolding all countIf
   count-under s p r [] e h = refl
   count-under s p r (x ∷ xs) e h =
       ap₂ (λ (b : Bool) (n : ℕ). bit b + n) (h x (and-l (s x) (all s xs) e)) (count-under s p r xs (and-r (s x) (all s xs) e) h)
 
-  pub count-none : (p : A → Bool) (xs : List A) → ((x : A) → p x ≡ false) → count p xs ≡ 0
-  unfolding count
+  pub count-none : (p : A → Bool) (xs : List A) → ((x : A) → p x ≡ false) → countIf p xs ≡ 0
+  unfolding countIf
   count-none p [] h = refl
-  count-none p (x ∷ xs) h = rw (h x) (zero-add (count p xs) ∙ count-none p xs h)
+  count-none p (x ∷ xs) h = rw (h x) (zero-add (countIf p xs) ∙ count-none p xs h)
 
-  pub count-keep : (p r : A → Bool) (xs : List A) → count p (keep r xs) ≡ count (λ x. r x && p x) xs
-  unfolding count keep
+  pub count-keep : (p r : A → Bool) (xs : List A) → countIf p (keep r xs) ≡ countIf (λ x. r x && p x) xs
+  unfolding countIf keep
   count-keep p r [] = refl
   count-keep p r (x ∷ xs) = go (r x) (count-keep p r xs)
     where
-      go : (b : Bool) → count p (keep r xs) ≡ count (λ y. r y && p y) xs
-          → count p (cond b (x ∷ keep r xs) (keep r xs)) ≡ bit (b && p x) + count (λ y. r y && p y) xs
+      go : (b : Bool) → countIf p (keep r xs) ≡ countIf (λ y. r y && p y) xs
+          → countIf p (cond b (x ∷ keep r xs) (keep r xs)) ≡ bit (b && p x) + countIf (λ y. r y && p y) xs
       go true e = ap (λ (n : ℕ). bit (p x) + n) e
-      go false e = e ∙ sym (zero-add (count (λ y. r y && p y) xs))
+      go false e = e ∙ sym (zero-add (countIf (λ y. r y && p y) xs))
 
   -- A test that does not look at the element counts all or none.
-  pub count-const : (p : A → Bool) (b : Bool) (xs : List A) → count (λ x. p x && b) xs ≡ cond b (count p xs) 0
-  unfolding count
+  pub count-const : (p : A → Bool) (b : Bool) (xs : List A) → countIf (λ x. p x && b) xs ≡ cond b (countIf p xs) 0
+  unfolding countIf
   count-const p true [] = refl
   count-const p false [] = refl
   count-const p true (x ∷ xs) = ap₂ (λ (c : Bool) (n : ℕ). bit c + n) (and-true (p x)) (count-const p true xs)
   count-const p false (x ∷ xs) = ap₂ (λ (c : Bool) (n : ℕ). bit c + n) (and-false (p x)) (count-const p false xs)
 
-  pub mem-count : (p : A → Bool) {x : A} {xs : List A} → List·Memᴰ x xs → p x ≡ true → 0 < count p xs
-  unfolding count
+  pub mem-count : (p : A → Bool) {x : A} {xs : List A} → List·Memᴰ x xs → p x ≡ true → 0 < countIf p xs
+  unfolding countIf
   mem-count p {xs = y ∷ ys} (List·Memᴰ·head e) h = rw (sym (ap p e) ∙ h) (omega arith)
-  mem-count p {xs = y ∷ ys} (List·Memᴰ·tail m) h = let ih : 0 < count p ys = mem-count p m h in omega arith
+  mem-count p {xs = y ∷ ys} (List·Memᴰ·tail m) h = let ih : 0 < countIf p ys = mem-count p m h in omega arith
 
-  pub count-le : (p : A → Bool) (xs : List A) → count p xs ≤ length xs
-  unfolding count
+  pub count-le : (p : A → Bool) (xs : List A) → countIf p xs ≤ length xs
+  unfolding countIf
   count-le p [] = omega arith
   count-le p (x ∷ xs) = go (p x) (count-le p xs)
     where
-      go : (b : Bool) → count p xs ≤ length xs → bit b + count p xs ≤ suc (length xs)
+      go : (b : Bool) → countIf p xs ≤ length xs → bit b + countIf p xs ≤ suc (length xs)
       go true h = omega arith
       go false h = omega arith
 
-  pub count-all : (p : A → Bool) (xs : List A) → all p xs ≡ true → count p xs ≡ length xs
-  unfolding all count
+  pub count-all : (p : A → Bool) (xs : List A) → all p xs ≡ true → countIf p xs ≡ length xs
+  unfolding all countIf
   count-all p [] e = refl
   count-all p (x ∷ xs) e =
-      rw (and-l (p x) (all p xs) e) (let ih : count p xs ≡ length xs = count-all p xs (and-r (p x) (all p xs) e) in omega arith)
+      rw (and-l (p x) (all p xs) e) (let ih : countIf p xs ≡ length xs = count-all p xs (and-r (p x) (all p xs) e) in omega arith)
 
-  pub length-keep : (p : A → Bool) (xs : List A) → length (keep p xs) ≡ count p xs
-  unfolding count keep
+  pub length-keep : (p : A → Bool) (xs : List A) → length (keep p xs) ≡ countIf p xs
+  unfolding countIf keep
   length-keep p [] = refl
   length-keep p (x ∷ xs) = go (p x) (length-keep p xs)
     where
-      go : (b : Bool) → length (keep p xs) ≡ count p xs → length (cond b (x ∷ keep p xs) (keep p xs)) ≡ bit b + count p xs
+      go : (b : Bool) → length (keep p xs) ≡ countIf p xs → length (cond b (x ∷ keep p xs) (keep p xs)) ≡ bit b + countIf p xs
       go true e = omega arith
       go false e = omega arith
 
   -- A list that counts something has an element that passes, as a fact about all of them.
-  pub count-passes : (p r : A → Bool) (xs : List A) → all r xs ≡ true → ((x : A) → r x ≡ true → p x ≡ false) → count p xs ≡ 0
+  pub count-passes : (p r : A → Bool) (xs : List A) → all r xs ≡ true → ((x : A) → r x ≡ true → p x ≡ false) → countIf p xs ≡ 0
   count-passes p r xs e h = count-under r p (λ x. false) xs e h ∙ count-none (λ x. false) xs (λ x. refl)
 
   pub total-append : (f : A → ℕ) (xs ys : List A) → total f (xs ++ ys) ≡ total f xs + total f ys
@@ -107,8 +107,8 @@ module _ {A : Type 0} where
       let ih : total (λ y. f y + h y) xs ≡ total f xs + total h xs = total-add f h xs in omega arith
 
   -- A count is a sum of bits.
-  pub total-bit : (p : A → Bool) (xs : List A) → total (λ x. bit (p x)) xs ≡ count p xs
-  unfolding count total
+  pub total-bit : (p : A → Bool) (xs : List A) → total (λ x. bit (p x)) xs ≡ countIf p xs
+  unfolding countIf total
   total-bit p [] = refl
   total-bit p (x ∷ xs) = ap (λ (n : ℕ). bit (p x) + n) (total-bit p xs)
 
@@ -118,8 +118,8 @@ module _ {A : Type 0} where
   total-one (x ∷ xs) = let ih : total (λ y. 1) xs ≡ length xs = total-one xs in omega arith
 
 module _ {A B : Type 0} where
-  pub count-map : (p : B → Bool) (f : A → B) (xs : List A) → count p (map f xs) ≡ count (λ x. p (f x)) xs
-  unfolding count
+  pub count-map : (p : B → Bool) (f : A → B) (xs : List A) → countIf p (map f xs) ≡ countIf (λ x. p (f x)) xs
+  unfolding countIf
   count-map p f [] = refl
   count-map p f (x ∷ xs) = ap (λ (n : ℕ). bit (p (f x)) + n) (count-map p f xs)
 
@@ -133,10 +133,10 @@ module _ {A B : Type 0} where
   all-flatMap p f [] = refl
   all-flatMap p f (x ∷ xs) = all-append p (f x) (flatMap f xs) ∙ ap (λ (b : Bool). all p (f x) && b) (all-flatMap p f xs)
 
-  pub count-flatMap : (p : B → Bool) (f : A → List B) (xs : List A) → count p (flatMap f xs) ≡ total (λ x. count p (f x)) xs
-  unfolding count total flatMap
+  pub count-flatMap : (p : B → Bool) (f : A → List B) (xs : List A) → countIf p (flatMap f xs) ≡ total (λ x. countIf p (f x)) xs
+  unfolding countIf total flatMap
   count-flatMap p f [] = refl
-  count-flatMap p f (x ∷ xs) = count-append p (f x) (flatMap f xs) ∙ ap (λ (n : ℕ). count p (f x) + n) (count-flatMap p f xs)
+  count-flatMap p f (x ∷ xs) = count-append p (f x) (flatMap f xs) ∙ ap (λ (n : ℕ). countIf p (f x) + n) (count-flatMap p f xs)
 
   pub length-flatMap : (f : A → List B) (xs : List A) → length (flatMap f xs) ≡ total (λ x. length (f x)) xs
   unfolding total flatMap
@@ -144,17 +144,17 @@ module _ {A B : Type 0} where
   length-flatMap f (x ∷ xs) = lib.ListN.length-append (f x) (flatMap f xs) ∙ ap (λ (n : ℕ). length (f x) + n) (length-flatMap f xs)
 
   -- Pairs counted by rows or by columns.
-  pub total-swap : (p : A → B → Bool) (xs : List A) (ys : List B) → total (λ x. count (p x) ys) xs ≡ total (λ y. count (λ x. p x y) xs) ys
-  unfolding count total
+  pub total-swap : (p : A → B → Bool) (xs : List A) (ys : List B) → total (λ x. countIf (p x) ys) xs ≡ total (λ y. countIf (λ x. p x y) xs) ys
+  unfolding countIf total
   total-swap p [] ys = sym (total-zero ys)
   total-swap p (x ∷ xs) ys =
-      ap (λ (n : ℕ). count (p x) ys + n) (total-swap p xs ys)
-      ∙ ap (λ (n : ℕ). n + total (λ y. count (λ z. p z y) xs) ys) (sym (total-bit (p x) ys))
-      ∙ sym (total-add (λ y. bit (p x y)) (λ y. count (λ z. p z y) xs) ys)
+      ap (λ (n : ℕ). countIf (p x) ys + n) (total-swap p xs ys)
+      ∙ ap (λ (n : ℕ). n + total (λ y. countIf (λ z. p z y) xs) ys) (sym (total-bit (p x) ys))
+      ∙ sym (total-add (λ y. bit (p x y)) (λ y. countIf (λ z. p z y) xs) ys)
 
 -- Of the numbers below n only k passes an equality with k.
-pub count-range-one : (t : ℕ → Bool) (k n : ℕ) → count (λ y. eqb y k && t y) (range n) ≡ bit (ltb k n && t k)
-unfolding count range
+pub count-range-one : (t : ℕ → Bool) (k n : ℕ) → countIf (λ y. eqb y k && t y) (range n) ≡ bit (ltb k n && t k)
+unfolding countIf range
 count-range-one t k zero = rw (le-ltb k 0 (omega arith)) refl
 count-range-one t k (suc n) =
     count-append (λ y. eqb y k && t y) (range n) (n ∷ [])
@@ -173,18 +173,18 @@ count-range-one t k (suc n) =
 
 -- Of the elements that the numbers below n produce only that of k₀ can pass, and only where c holds.
 pub count-produced : {B : Type 0} (p : B → Bool) (make : ℕ → B) (t : ℕ → Bool) (c : Bool) (k₀ n : ℕ)
-    → ((k : ℕ) → p (make k) ≡ (c && eqb k₀ k)) → count p (map make (keep t (range n))) ≡ bit (ltb k₀ n && (t k₀ && c))
+    → ((k : ℕ) → p (make k) ≡ (c && eqb k₀ k)) → countIf p (map make (keep t (range n))) ≡ bit (ltb k₀ n && (t k₀ && c))
 count-produced p make t c k₀ n h =
     count-map p make (keep t (range n)) ∙ count-keep (λ k. p (make k)) t (range n)
-    ∙ ap (λ (r : ℕ → Bool). count r (range n))
+    ∙ ap (λ (r : ℕ → Bool). countIf r (range n))
     (fun-ext (λ (k : ℕ). ap (λ (b : Bool). t k && b) (h k ∙ ap (λ (b : Bool). c && b) (eqb-sym k₀ k)) ∙ and-turn (t k) c (eqb k k₀)))
     ∙ count-range-one (λ (k : ℕ). t k && c) k₀ n
 
 -- ---- one element more
 
-pub count-snoc : {A : Type 0} (p : A → Bool) (xs : List A) (x : A) → count p (xs ++ (x ∷ [])) ≡ count p xs + bit (p x)
-unfolding count
-count-snoc p xs x = count-append p xs (x ∷ []) ∙ ap (λ (n : ℕ). count p xs + n) (add-zero (bit (p x)))
+pub count-snoc : {A : Type 0} (p : A → Bool) (xs : List A) (x : A) → countIf p (xs ++ (x ∷ [])) ≡ countIf p xs + bit (p x)
+unfolding countIf
+count-snoc p xs x = count-append p xs (x ∷ []) ∙ ap (λ (n : ℕ). countIf p xs + n) (add-zero (bit (p x)))
 
 pub total-suc : (f : ℕ → ℕ) (n : ℕ) → total f (range (suc n)) ≡ total f (range n) + f n
 unfolding total range
@@ -200,37 +200,37 @@ total-mono f i (suc n) h = go (total-mono f i n) (eq-or-lt-of-le h)
 
 -- Where what passes s and p passes r, r counts no less than p in a list of what passes s.
 pub count-mono : {A : Type 0} (s p r : A → Bool) (xs : List A) → all s xs ≡ true → ((x : A) → s x ≡ true → p x ≡ true → r x ≡ true)
-    → count p xs ≤ count r xs
-unfolding all count
+    → countIf p xs ≤ countIf r xs
+unfolding all countIf
 count-mono s p r [] e h = omega arith
 count-mono s p r (x ∷ xs) e h = go (p x) refl (count-mono s p r xs (and-r (s x) (all s xs) e) h)
   where
-    go : (b : Bool) → p x ≡ b → count p xs ≤ count r xs → bit b + count p xs ≤ bit (r x) + count r xs
+    go : (b : Bool) → p x ≡ b → countIf p xs ≤ countIf r xs → bit b + countIf p xs ≤ bit (r x) + countIf r xs
     go true i l = rw (h x (and-l (s x) (all s xs) e) i) (omega arith)
     go false i l = omega arith
 
 -- A test that passes where one of two tests does, and no two do, counts their sum.
-pub count-sum : {A : Type 0} (c a b : A → Bool) (xs : List A) → ((x : A) → bit (c x) ≡ bit (a x) + bit (b x)) → count c xs ≡ count a xs + count b xs
-unfolding count
+pub count-sum : {A : Type 0} (c a b : A → Bool) (xs : List A) → ((x : A) → bit (c x) ≡ bit (a x) + bit (b x)) → countIf c xs ≡ countIf a xs + countIf b xs
+unfolding countIf
 count-sum c a b [] h = refl
-count-sum c a b (x ∷ xs) h = let e : count c xs ≡ count a xs + count b xs = count-sum c a b xs h in omega (arith, h x)
+count-sum c a b (x ∷ xs) h = let e : countIf c xs ≡ countIf a xs + countIf b xs = count-sum c a b xs h in omega (arith, h x)
 
 -- An element that passes a test stands, of those that pass, after as many as pass before it.
 pub keep-at : (p : ℕ → Bool) (xs : List ℕ) (i : ℕ) → i < length xs → p (getD xs i 0) ≡ true
-    → getD (keep p xs) (count p (take i xs)) 0 ≡ getD xs i 0
-unfolding keep count
+    → getD (keep p xs) (countIf p (take i xs)) 0 ≡ getD xs i 0
+unfolding keep countIf
 keep-at p [] i h e = absurd (omega arith)
 keep-at p (x ∷ xs) zero h e = rw e
 keep-at p (x ∷ xs) (suc i) h e = go (p x) (keep-at p xs i (le-of-suc-le-suc h) e)
   where
-    go : (b : Bool) → getD (keep p xs) (count p (take i xs)) 0 ≡ getD xs i 0
-        → getD (cond b (x ∷ keep p xs) (keep p xs)) (bit b + count p (take i xs)) 0 ≡ getD xs i 0
-    go true k = rw (add-comm 1 (count p (take i xs)), add-one (count p (take i xs))) k
-    go false k = rw (zero-add (count p (take i xs))) k
+    go : (b : Bool) → getD (keep p xs) (countIf p (take i xs)) 0 ≡ getD xs i 0
+        → getD (cond b (x ∷ keep p xs) (keep p xs)) (bit b + countIf p (take i xs)) 0 ≡ getD xs i 0
+    go true k = rw (add-comm 1 (countIf p (take i xs)), add-one (countIf p (take i xs))) k
+    go false k = rw (zero-add (countIf p (take i xs))) k
 
 -- Fewer pass before an element that passes than pass in all.
-pub count-before : (p : ℕ → Bool) (xs : List ℕ) (i : ℕ) → i < length xs → p (getD xs i 0) ≡ true → count p (take i xs) < count p xs
-unfolding count
+pub count-before : (p : ℕ → Bool) (xs : List ℕ) (i : ℕ) → i < length xs → p (getD xs i 0) ≡ true → countIf p (take i xs) < countIf p xs
+unfolding countIf
 count-before p [] i h e = absurd (omega arith)
 count-before p (x ∷ xs) zero h e = rw e (omega arith)
 count-before p (x ∷ xs) (suc i) h e = omega (arith, count-before p xs i (le-of-suc-le-suc h) e)

@@ -8,7 +8,7 @@ use lib.Dec.{ltb}
 use lib.ListN.{length, take, drop, length-append}
 use lib.Seq.{take-at, drop-at}
 use borrow.Author.Tests.{ltb-true, lt-ltb, le-ltb, ltb-false}
-use Rattle.lists.specs.Lists.{range, keep, count, ascending}
+use Rattle.lists.specs.Lists.{range, keep, countIf, ascending}
 use Rattle.lists.proofs.Tests.{iff, and-l, and-both}
 use Rattle.lists.proofs.All.{all-true, keep-none, keep-ext, keep-keep, keep-append}
 use Rattle.lists.proofs.Count.{all-map, length-keep}
@@ -59,12 +59,12 @@ module _ {A : Type 0} (f : A → ℕ) where
 
   -- So the numbers of elements below t and below u are where those in between begin and end.
   pub cut-part : (xs : List A) (t u : ℕ) → ascending (map f xs) ≡ true → t ≤ u
-      → take (count (λ x. ltb (f x) u) xs - count (λ x. ltb (f x) t) xs) (drop (count (λ x. ltb (f x) t) xs) xs)
+      → take (countIf (λ x. ltb (f x) u) xs - countIf (λ x. ltb (f x) t) xs) (drop (countIf (λ x. ltb (f x) t) xs) xs)
       ≡ keep (λ x. not (ltb (f x) t) && ltb (f x) u) xs
   cut-part xs t u e h =
-      ap (take (count under xs - count low xs))
-      (ap (drop (count low xs)) whole ∙ drop-at (keep low xs) (mid ++ high) (count low xs) (length-keep low xs))
-      ∙ take-at mid high (count under xs - count low xs) size
+      ap (take (countIf under xs - countIf low xs))
+      (ap (drop (countIf low xs)) whole ∙ drop-at (keep low xs) (mid ++ high) (countIf low xs) (length-keep low xs))
+      ∙ take-at mid high (countIf under xs - countIf low xs) size
     where
       low : A → Bool
       low x = ltb (f x) t
@@ -81,9 +81,9 @@ module _ {A : Type 0} (f : A → ℕ) where
       whole : xs ≡ keep low xs ++ (mid ++ high)
       whole = cut xs u e ∙ ap (λ (l : List A). l ++ high) (keep-below xs t u e h) ∙ append-assoc (keep low xs) mid high
 
-      size : length mid ≡ count under xs - count low xs
+      size : length mid ≡ countIf under xs - countIf low xs
       size =
-          let s : count under xs ≡ count low xs + length mid =
+          let s : countIf under xs ≡ countIf low xs + length mid =
           sym (length-keep under xs) ∙ ap length (keep-below xs t u e h) ∙ length-append (keep low xs) mid
           ∙ ap (λ (n : ℕ). n + length mid) (length-keep low xs) in
           omega arith

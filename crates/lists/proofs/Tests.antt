@@ -4,7 +4,7 @@ use mathlib.Core.Bool.{Bool, true, false, not, cond, _&&_, _||_, true≢false}
 use Prim.Native.Nat.{ℕ}
 use lib.Dec.{eqb}
 use borrow.Author.Tests.{eqb-true, eq-eqb}
-use Rattle.lists.specs.Lists.{_⇒_, bit}
+use Rattle.lists.specs.Lists.{_implies_, bit}
 
 -- No test both passes and fails.
 pub clash : {A : Type 0} {b : Bool} → b ≡ true → b ≡ false → A
@@ -48,11 +48,11 @@ and-left-comm true false c = refl
 and-left-comm false true c = refl
 and-left-comm false false c = refl
 
-pub imp-use : (a b : Bool) → (a ⇒ b) ≡ true → a ≡ true → b ≡ true
+pub imp-use : (a b : Bool) → (a implies b) ≡ true → a ≡ true → b ≡ true
 imp-use true b e p = e
 imp-use false b e p = clash p refl
 
-pub imp-intro : (a b : Bool) → (a ≡ true → b ≡ true) → (a ⇒ b) ≡ true
+pub imp-intro : (a b : Bool) → (a ≡ true → b ≡ true) → (a implies b) ≡ true
 imp-intro true b f = f refl
 imp-intro false b f = refl
 
@@ -88,7 +88,7 @@ pub not-false : (a : Bool) → not a ≡ false → a ≡ true
 not-false true e = refl
 not-false false e = clash refl e
 
-pub imp-or : (a b h : Bool) → (a || b ⇒ h) ≡ ((a ⇒ h) && (b ⇒ h))
+pub imp-or : (a b h : Bool) → (a || b implies h) ≡ ((a implies h) && (b implies h))
 imp-or true true true = refl
 imp-or true true false = refl
 imp-or true false true = refl

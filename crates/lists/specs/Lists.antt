@@ -1,14 +1,15 @@
--- Lists of numbers, rows and edges: testing, choosing, counting, sorting. Assumes nothing.
+-- Lists of numbers, rows and edges: testing, choosing, counting, sorting. `all`, `any` and `range` mean what mathlib's do, which are not
+-- cited since its `all` and `any` cannot be computed outside their module and its `range` is of other numbers. Assumes nothing.
 use mathlib.Core.Bool.{Bool, true, false, cond, _&&_, _||_}
 use mathlib.Core.List.{List, [], _∷_, _++_}
 use Prim.Native.Nat.{ℕ, zero, suc, _+_, max}
 use lib.Dec.{eqb, leb, ltb}
 
-infixr 25 _⇒_
+infixr 25 _implies_
 -- If a then b, as a test.
-abbrev pub _⇒_ : Bool → Bool → Bool
-true ⇒ b = b
-false ⇒ b = true
+abbrev pub _implies_ : Bool → Bool → Bool
+true implies b = b
+false implies b = true
 
 -- 1 where the test passes, 0 where it fails.
 abbrev pub bit : Bool → ℕ
@@ -36,9 +37,9 @@ keep p [] = []
 keep p (x ∷ xs) = cond (p x) (x ∷ keep p xs) (keep p xs)
 
 -- How many elements pass the test.
-unfoldable pub count : {A : Type 0} → (A → Bool) → List A → ℕ
-count p [] = 0
-count p (x ∷ xs) = bit (p x) + count p xs
+unfoldable pub countIf : {A : Type 0} → (A → Bool) → List A → ℕ
+countIf p [] = 0
+countIf p (x ∷ xs) = bit (p x) + countIf p xs
 
 -- The sum of a number taken of each element.
 unfoldable pub total : {A : Type 0} → (A → ℕ) → List A → ℕ
@@ -68,11 +69,11 @@ ascending [] = true
 ascending (x ∷ xs) = ascendsFrom x xs
 
 -- x put before the first number that is not below it.
-unfoldable pub insert : ℕ → List ℕ → List ℕ
-insert x [] = x ∷ []
-insert x (y ∷ ys) = cond (leb x y) (x ∷ y ∷ ys) (y ∷ insert x ys)
+unfoldable pub insertSorted : ℕ → List ℕ → List ℕ
+insertSorted x [] = x ∷ []
+insertSorted x (y ∷ ys) = cond (leb x y) (x ∷ y ∷ ys) (y ∷ insertSorted x ys)
 
 -- The numbers of a list, ascending.
 unfoldable pub sort : List ℕ → List ℕ
 sort [] = []
-sort (x ∷ xs) = insert x (sort xs)
+sort (x ∷ xs) = insertSorted x (sort xs)

@@ -6,7 +6,7 @@ use Prim.Native.Nat.{ℕ, _+_, _≤_, _<_}
 use native.Mathlib.Omega.{arith}
 use lib.Dec.{eqb, ltb}
 use borrow.Author.Tests.{eqb-true, eqb-false, ne-eqb, ltb-true, lt-ltb, ltb-false, le-ltb}
-use Rattle.lists.specs.Lists.{bit, all, count, ascendsFrom, ascending}
+use Rattle.lists.specs.Lists.{bit, all, countIf, ascendsFrom, ascending}
 use Rattle.lists.proofs.Tests.{and-l, and-r, and-both, eqb-refl}
 use Rattle.lists.proofs.Sort.{ascends-from, ascends-above, ascends-tail, ascends-absent}
 use Rattle.merge.specs.inner.Toggle.{toggle, toggled}
@@ -66,18 +66,18 @@ ascending-toggle y (z ∷ zs) e =
     (all-toggle (λ (x : ℕ). ltb z x) y zs (lt-ltb z y l) (ascends-above z zs e))))
 
 -- Of a number that is absent, the list has one more; of one that is present, one less.
-pub toggle-absent : (p : ℕ → Bool) (y : ℕ) (zs : List ℕ) → count (λ (z : ℕ). eqb z y) zs ≡ 0 → count p (toggle y zs) ≡ bit (p y) + count p zs
-unfolding count toggle
+pub toggle-absent : (p : ℕ → Bool) (y : ℕ) (zs : List ℕ) → countIf (λ (z : ℕ). eqb z y) zs ≡ 0 → countIf p (toggle y zs) ≡ bit (p y) + countIf p zs
+unfolding countIf toggle
 toggle-absent p y [] h = refl
 toggle-absent p y (z ∷ zs) h =
     toggle-cases y z
     (λ l. rw (toggle-before y z zs l))
-    (λ i. let h' : bit (eqb y y) + count (λ (x : ℕ). eqb x y) zs ≡ 0 = rw (sym i) at h in absurd (omega (arith, rw (eqb-refl y) at h')))
+    (λ i. let h' : bit (eqb y y) + countIf (λ (x : ℕ). eqb x y) zs ≡ 0 = rw (sym i) at h in absurd (omega (arith, rw (eqb-refl y) at h')))
     (λ l. rw (toggle-later y z zs l) (omega (arith, toggle-absent p y zs (omega arith))))
 
-pub toggle-present : (p : ℕ → Bool) (y : ℕ) (zs : List ℕ) → ascending zs ≡ true → 0 < count (λ (z : ℕ). eqb z y) zs
-    → count p (toggle y zs) + bit (p y) ≡ count p zs
-unfolding count toggle ascending ascendsFrom
+pub toggle-present : (p : ℕ → Bool) (y : ℕ) (zs : List ℕ) → ascending zs ≡ true → 0 < countIf (λ (z : ℕ). eqb z y) zs
+    → countIf p (toggle y zs) + bit (p y) ≡ countIf p zs
+unfolding countIf toggle ascending ascendsFrom
 toggle-present p y [] e h = absurd (omega arith)
 toggle-present p y (z ∷ zs) e h =
     toggle-cases y z

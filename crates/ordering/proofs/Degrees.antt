@@ -7,7 +7,7 @@ use native.Mathlib.Numerals.{add-one}
 use native.Mathlib.Omega.{arith}
 use lib.Dec.{eqb, ltb}
 use borrow.Author.Tests.{eqb-true, ltb-true, eq-eqb, ne-eqb}
-use Rattle.lists.specs.Lists.{bit, range, count}
+use Rattle.lists.specs.Lists.{bit, range, countIf}
 use Rattle.lists.proofs.All.{all-getD}
 use Rattle.lists.proofs.Count.{count-le, count-snoc}
 use Rattle.lists.proofs.Maps.{length-image, image-suc}
@@ -60,11 +60,11 @@ vertices-in d = refl
 
 -- Of the first i edges of a struct.
 abbrev pub joined : QueryStruct → ℕ → VertexSet → ℕ → ℕ
-joined d v S i = count (between v S) (map (edgeOf d) (range i))
+joined d v S i = countIf (between v S) (map (edgeOf d) (range i))
 
 module _ (d : QueryStruct) (v : ℕ) (S : VertexSet) where
   pub joined-none : joined d v S 0 ≡ 0
-  unfolding count range
+  unfolding countIf range
   joined-none = refl
 
   pub joined-le : (i : ℕ) → joined d v S i ≤ i

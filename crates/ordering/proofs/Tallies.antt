@@ -9,7 +9,7 @@ use lib.Dec.{eqb, ltb}
 use lib.ListN.{length, getD, set, take, drop, length-map}
 use lib.Seq.{take-length, take-at}
 use borrow.Author.Tests.{ltb-true, lt-ltb, ne-eqb}
-use Rattle.lists.specs.Lists.{range, all, count}
+use Rattle.lists.specs.Lists.{range, all, countIf}
 use Rattle.lists.proofs.All.{all-true, all-follows, all-getD, map-getD}
 use Rattle.lists.proofs.Count.{all-map, count-map, count-all, count-under}
 use Rattle.lists.proofs.Maps.{getD-image, image-ext}
@@ -38,20 +38,20 @@ pub label-below : (s : List ℕ) (j : ℕ) → Entries s → j < length s → la
 label-below s j e h = omega (arith, ltb-true (getD s j 0) 16777216 (all-getD (λ (k : ℕ). ltb k 16777216) s j 0 h (e .fit)))
 
 -- What was counted by index was counted of the entries.
-tallied-label : (s : List ℕ) (l : ℕ) → count (λ (j : ℕ). eqb (labelAt s j) l) (range (length s)) ≡ count (λ (k : ℕ). eqb (k / entrySpan) l) s
+tallied-label : (s : List ℕ) (l : ℕ) → countIf (λ (j : ℕ). eqb (labelAt s j) l) (range (length s)) ≡ countIf (λ (k : ℕ). eqb (k / entrySpan) l) s
 tallied-label s l =
     sym (count-map (λ (k : ℕ). eqb (k / entrySpan) l) (λ (j : ℕ). getD s j 0) (range (length s)))
-    ∙ ap (count (λ (k : ℕ). eqb (k / entrySpan) l)) (map-getD s (length s) (le-refl (length s)) ∙ take-length s)
+    ∙ ap (countIf (λ (k : ℕ). eqb (k / entrySpan) l)) (map-getD s (length s) (le-refl (length s)) ∙ take-length s)
 
 -- With the number of all entries for label 0 the counts are complete.
 pub tallied-all : (s counts : List ℕ) → Tallied (labelAt s) 256 (length s) counts → set counts 0 (length s) ≡ labelCounts s
 unfolding labelCounts groupSizes covers
 tallied-all s counts t =
     ap₂ (λ (c : List ℕ) (n : ℕ). set c 0 n) (t .words) (sym every)
-    ∙ set-image (λ (l : ℕ). count (λ (j : ℕ). eqb (labelAt s j) l) (range (length s))) (λ (l : ℕ). count (λ (k : ℕ). covers l (k / entrySpan)) s) 256 0 (omega arith)
+    ∙ set-image (λ (l : ℕ). countIf (λ (j : ℕ). eqb (labelAt s j) l) (range (length s))) (λ (l : ℕ). countIf (λ (k : ℕ). covers l (k / entrySpan)) s) 256 0 (omega arith)
     (λ l d. tallied-label s l ∙ sym (rw (ne-eqb l 0 d)))
   where
-    every : count (λ (k : ℕ). covers 0 (k / entrySpan)) s ≡ length s
+    every : countIf (λ (k : ℕ). covers 0 (k / entrySpan)) s ≡ length s
     every = count-all (λ (k : ℕ). covers 0 (k / entrySpan)) s (all-true s)
 
 -- ---- the forward entries of a store
@@ -93,7 +93,7 @@ module _ (store : List ℕ) (accepted : storeFault store ≡ 0) where
   part-counts =
       let w = graph-formed store accepted in
       ap labelCounts forward-part
-      ∙ image-ext (λ (l : ℕ). count (λ (k : ℕ). covers l (k / entrySpan)) (map (entry forward) (g .edges))) (edgesOf g) 256
+      ∙ image-ext (λ (l : ℕ). countIf (λ (k : ℕ). covers l (k / entrySpan)) (map (entry forward) (g .edges))) (edgesOf g) 256
       (λ l h.
       count-map (λ (k : ℕ). covers l (k / entrySpan)) (entry forward) (g .edges)
       ∙ count-under (fitting (g .vertices)) (λ (e : Edge). covers l (entry forward e / entrySpan)) (λ (e : Edge). covers l (e .label)) (g .edges) (w .edges-fit)

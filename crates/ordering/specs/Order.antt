@@ -4,7 +4,7 @@ use mathlib.Core.List.{List, [], _∷_, map}
 use Prim.Native.Nat.{ℕ, zero, suc, _-_, _≤_, _<_}
 use lib.Dec.{ltb}
 use lib.ListN.{length}
-use Rattle.lists.specs.Lists.{count}
+use Rattle.lists.specs.Lists.{countIf}
 use Rattle.graph.specs.Graph.{Edge, Graph, covers}
 use Rattle.query.specs.Query.{Query, VertexSet, edgeAt, between}
 use Rattle.plan.specs.Plan.{Operator, scan, extend, ends, plus}
@@ -16,7 +16,7 @@ chosen better (suc n) = cond (better n (chosen better n)) n (chosen better n)
 
 -- How many data edges a query's label has: 'label 0 counts them all'.
 unfoldable pub edgesOf : Graph → ℕ → ℕ
-edgesOf g l = count (λ (e : Edge). covers l (e .label)) (g .edges)
+edgesOf g l = countIf (λ (e : Edge). covers l (e .label)) (g .edges)
 
 abbrev pub scanSize : Graph → Query → ℕ → ℕ
 scanSize g q i = edgesOf g (edgeAt q i .label)
@@ -27,7 +27,7 @@ scanEdge g q = chosen (λ (i j : ℕ). ltb (scanSize g q i) (scanSize g q j)) (l
 
 -- How many query edges, 'in either direction', join an uncovered vertex 'to the covered ones'; a covered one counts as having none.
 unfoldable pub degree : Query → VertexSet → ℕ → ℕ
-degree q S v = cond (S v) 0 (count (between v S) (q .edges))
+degree q S v = cond (S v) 0 (countIf (between v S) (q .edges))
 
 -- 'Each extend takes the uncovered vertex with most query edges .. to the covered ones, then lowest number.'
 unfoldable pub nextVertex : Query → VertexSet → ℕ

@@ -15,15 +15,12 @@ ghost use Rattle.query.specs.inner.Mask.{inMask};
 ghost use Rattle.ordering.specs.Order.{chosen, degree, nextVertex};
 ghost use Rattle.ordering.specs.inner.Counts.{labelCounts, edgeCounts, Entries, Drawable};
 
-// How many values a query edge's label has.
-pub const LABELS: usize = Graph::MAX_EDGE_LABEL + 1;
-
 // How many of the entries each label counts; label 0 counts them all.
-fn count_labels(entries: &[u32]) -> [u32; LABELS]
+fn count_labels(entries: &[u32]) -> [u32; Graph::EDGE_LABELS]
     requires { ⌜ Entries (now entries) ⌝ }
     ensures { λ r. ⌜ r ≡ labelCounts (now (entries .entry)) ⌝ }
 {
-    let mut counts = [0u32; LABELS];
+    let mut counts = [0u32; Graph::EDGE_LABELS];
     let mut i = 0;
     while i < entries.len() {
         let label = (entries[i] / Graph::SPAN) as usize;
@@ -35,7 +32,7 @@ fn count_labels(entries: &[u32]) -> [u32; LABELS]
 }
 
 // How many data edges each label has, by one walk of the forward entries.
-pub fn edge_counts(store: &[u32]) -> [u32; LABELS]
+pub fn edge_counts(store: &[u32]) -> [u32; Graph::EDGE_LABELS]
     requires { ⌜ storeFault (now store) ≡ 0 ⌝ }
     ensures { λ r. ⌜ r ≡ edgeCounts (graphIn (now (store .entry))) ⌝ }
 {
@@ -45,7 +42,7 @@ pub fn edge_counts(store: &[u32]) -> [u32; LABELS]
 }
 
 // The query edge whose label has the fewest data edges, the first of them.
-pub fn scan_edge(q: Query, counts: &[u32; LABELS]) -> usize
+pub fn scan_edge(q: Query, counts: &[u32; Graph::EDGE_LABELS]) -> usize
     requires { ⌜ Drawable q ⌝ }
     ensures { λ r. ⌜ r ≡ chosen (λ (i j : ℕ). ltb (getD (now (counts .entry)) (edgeAt (queryIn q) i .label) 0) (getD (now (counts .entry)) (edgeAt (queryIn q) j .label) 0)) (q .edges) ⌝ }
 {

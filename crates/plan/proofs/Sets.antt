@@ -8,7 +8,7 @@ use borrow.Author.Tests.{ltb-true}
 use lib.Dec.{eqb, ltb, lit≤}
 use lib.Bits.{bitAnd, bitOr, and-le-l}
 use lib.ListN.{length}
-use Rattle.lists.specs.Lists.{_⇒_, range, all, any}
+use Rattle.lists.specs.Lists.{_implies_, range, all, any}
 use Rattle.lists.proofs.Tests.{clash, fails, imp-intro, or-intro-l, or-intro-r}
 use Rattle.lists.proofs.Maps.{length-image}
 use Rattle.lists.proofs.Any.{any-all}
@@ -50,7 +50,7 @@ module _ (b p : ℕ) (e : Edge) where
   pub kept-neither : inside (inMask b) e ≡ false → inside (inMask p) e ≡ false → not (kept (inMask b) (inMask p) e) ≡ inside (inMask (bitOr b p)) e
   kept-neither h k = rw (or-set b p, h, k) (not-imp (inside (union (inMask b) (inMask p)) e))
     where
-      not-imp : (u : Bool) → not (u ⇒ false) ≡ u
+      not-imp : (u : Bool) → not (u implies false) ≡ u
       not-imp true = refl
       not-imp false = refl
 

@@ -4,7 +4,7 @@ use mathlib.Core.List.{List, [], _∷_}
 use Prim.Native.Nat.{ℕ}
 use lib.Dec.{ltb}
 use lib.ListN.{length}
-use Rattle.lists.specs.Lists.{_⇒_, range, all, any}
+use Rattle.lists.specs.Lists.{_implies_, range, all, any}
 use Rattle.lists.specs.Refusal.{refuse, first}
 use Rattle.graph.specs.Graph.{Edge}
 use Rattle.query.specs.Query.{Query, VertexSet, edgeAt, inside, touches}
@@ -16,7 +16,7 @@ joinable q B P =
     any (λ (w : ℕ). B w && P w) (range (q .vertices))
     && any (λ (w : ℕ). B w && not (P w)) (range (q .vertices))
     && any (λ (w : ℕ). P w && not (B w)) (range (q .vertices))
-    && all (λ (e : Edge). inside (union B P) e ⇒ (inside B e || inside P e)) (q .edges)
+    && all (λ (e : Edge). inside (union B P) e implies (inside B e || inside P e)) (q .edges)
 
 -- '15 too few results in the pile, 16 extend by a covered vertex or with no edge to S, 17 a join rule broken.'
 unfoldable pub ruleFault : Query → Operator → List VertexSet → ℕ

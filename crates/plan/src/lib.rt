@@ -37,6 +37,21 @@ impl Plan {
     // No operator is of this kind.
     pub const NO_KIND: u32 = 3;
 
+    // The plan of so many operators, by the kind and the operand of each.
+    pub fn new(
+        operators: usize,
+        kinds: [u32; Plan::MAX_OPERATORS],
+        operands: [u32; Plan::MAX_OPERATORS],
+    ) -> Self
+        ensures { λ r. ⌜ r ≡ record { operators = operators; kinds = kinds; operands = operands } ⌝ }
+    {
+        Plan {
+            operators,
+            kinds,
+            operands,
+        }
+    }
+
     // The operator of an index below the count.
     pub fn operator(self, i: usize) -> Operator
         requires { ⌜ i < maxOperators ⌝ }

@@ -26,11 +26,7 @@ pub fn plan_of(file: &[u8]) -> Plan
         at = file::next_place(file, at);
         i += 1;
     }
-    Plan {
-        operators: count,
-        kinds,
-        operands,
-    }
+    Plan::new(count, kinds, operands)
 }
 
 // Check plan's refusal: the query's, then 12, 14, 13, then by the rules 15, 16, 17, 15, 18; or 0.

@@ -8,7 +8,7 @@ use lib.Dec.{ltb}
 use lib.ListN.{length, drop}
 use lib.Seq.{take-append-seam}
 use borrow.Author.Tests.{ltb-true, lt-ltb, eq-eqb}
-use Rattle.lists.specs.Lists.{range, all, count}
+use Rattle.lists.specs.Lists.{range, all, countIf}
 use Rattle.lists.proofs.All.{all-follows, all-getD}
 use Rattle.lists.proofs.Faults.{first-head, first-cons, first-nil}
 use Rattle.packed.specs.Field.{bytesFor}
@@ -134,7 +134,7 @@ module _ (g : Graph) (q : Query) (sized : Sized q) where
 
   module _ (ok : all (proper (q .vertices)) (q .edges) ≡ true) (whole : connected q ≡ true) where
     -- The scan covers two vertices.
-    scan-two : count (scanned g q) (range (q .vertices)) ≡ 2
+    scan-two : countIf (scanned g q) (range (q .vertices)) ≡ 2
     scan-two =
         let e = edgeAt q (scanEdge g q) in
         let p : proper (q .vertices) e ≡ true = all-getD (proper (q .vertices)) (q .edges) (scanEdge g q) _ scan-below ok in

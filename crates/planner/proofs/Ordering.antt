@@ -8,7 +8,7 @@ use native.Mathlib.Omega.{arith}
 use lib.Dec.{eqb, ltb}
 use lib.ListN.{length}
 use borrow.Author.Tests.{ltb-true, lt-ltb, le-ltb, eqb-true}
-use Rattle.lists.specs.Lists.{bit, range, all, count}
+use Rattle.lists.specs.Lists.{bit, range, all, countIf}
 use Rattle.lists.proofs.Tests.{clash, and-both}
 use Rattle.lists.proofs.Bits.{bit-or}
 use Rattle.lists.proofs.All.{length-range}
@@ -32,7 +32,7 @@ module _ (q : Query) (S : VertexSet) where
   unfolding degree
   degree-some v h = go (S v) refl h
     where
-      go : (b : Bool) → S v ≡ b → 0 < cond b 0 (count (between v S) (q .edges)) → (S v ≡ false) × (touches q v S ≡ true)
+      go : (b : Bool) → S v ≡ b → 0 < cond b 0 (countIf (between v S) (q .edges)) → (S v ≡ false) × (touches q v S ≡ true)
       go true e l = absurd (omega arith)
       go false e l = (e, any-count (between v S) (q .edges) ∙ lt-ltb 0 _ l)
 
@@ -47,7 +47,7 @@ module _ (q : Query) (S : VertexSet) where
     next-below = chosen-below _ (q .vertices) some
 
     -- In a connected query, where some vertices are covered and some are not, the next one is uncovered and touches the covered ones.
-    next-touches : connected q ≡ true → 0 < count S (range (q .vertices)) → count S (range (q .vertices)) < q .vertices
+    next-touches : connected q ≡ true → 0 < countIf S (range (q .vertices)) → countIf S (range (q .vertices)) < q .vertices
         → (S (nextVertex q S) ≡ false) × (touches q (nextVertex q S) S ≡ true)
     unfolding nextVertex
     next-touches c low high =
@@ -57,30 +57,30 @@ module _ (q : Query) (S : VertexSet) where
 -- ---- vertices covered
 
 -- A list of which as many elements pass as it has.
-count-full : {A : Type 0} (p : A → Bool) (xs : List A) → count p xs ≡ length xs → all p xs ≡ true
-unfolding count all
+count-full : {A : Type 0} (p : A → Bool) (xs : List A) → countIf p xs ≡ length xs → all p xs ≡ true
+unfolding countIf all
 count-full p [] e = refl
 count-full p (x ∷ xs) e = go (p x) refl (count-full p xs)
   where
-    go : (b : Bool) → p x ≡ b → (count p xs ≡ length xs → all p xs ≡ true) → (b && all p xs) ≡ true
-    go true i f = f (let r : bit true + count p xs ≡ suc (length xs) = rw i at e in omega arith)
-    go false i f = absurd (let r : bit false + count p xs ≡ suc (length xs) = rw i at e in omega (arith, count-le p xs))
+    go : (b : Bool) → p x ≡ b → (countIf p xs ≡ length xs → all p xs ≡ true) → (b && all p xs) ≡ true
+    go true i f = f (let r : bit true + countIf p xs ≡ suc (length xs) = rw i at e in omega arith)
+    go false i f = absurd (let r : bit false + countIf p xs ≡ suc (length xs) = rw i at e in omega (arith, count-le p xs))
 
 -- One vertex below n.
-count-one : (v n : ℕ) → v < n → count (λ (w : ℕ). eqb w v) (range n) ≡ 1
+count-one : (v n : ℕ) → v < n → countIf (λ (w : ℕ). eqb w v) (range n) ≡ 1
 count-one v n h =
-    ap (λ (p : ℕ → Bool). count p (range n)) (fun-ext (λ (w : ℕ). sym (and-true (eqb w v))))
+    ap (λ (p : ℕ → Bool). countIf p (range n)) (fun-ext (λ (w : ℕ). sym (and-true (eqb w v))))
     ∙ count-range-one (λ (w : ℕ). true) v n ∙ rw (lt-ltb v n h)
 
 -- One more vertex.
-count-plus : (v n : ℕ) (S : VertexSet) → v < n → S v ≡ false → count (plus v S) (range n) ≡ 1 + count S (range n)
+count-plus : (v n : ℕ) (S : VertexSet) → v < n → S v ≡ false → countIf (plus v S) (range n) ≡ 1 + countIf S (range n)
 count-plus v n S h e =
     count-sum (plus v S) (λ (w : ℕ). eqb w v) S (range n)
     (λ w. bit-or (eqb w v) (S w) (λ t u. clash u (ap S (eqb-true w v t) ∙ e)))
-    ∙ ap (λ (k : ℕ). k + count S (range n)) (count-one v n h)
+    ∙ ap (λ (k : ℕ). k + countIf S (range n)) (count-one v n h)
 
 -- The two ends of an edge.
-pub count-ends : (e : Edge) (n : ℕ) → e .source < n → e .target < n → eqb (e .source) (e .target) ≡ false → count (ends e) (range n) ≡ 2
+pub count-ends : (e : Edge) (n : ℕ) → e .source < n → e .target < n → eqb (e .source) (e .target) ≡ false → countIf (ends e) (range n) ≡ 2
 count-ends e n s t d =
     count-plus (e .source) n (λ (w : ℕ). eqb w (e .target)) s d ∙ ap (λ (k : ℕ). 1 + k) (count-one (e .target) n t)
 
@@ -100,7 +100,7 @@ module _ (q : Query) where
         and-both (ltb (nextVertex q S) (q .vertices)) _ (lt-ltb _ _ (next-below q S some)) (extends-below (plus (nextVertex q S) S) k)
 
     -- They break no rule, and cover what is left.
-    pub extends-pass : connected q ≡ true → (S : VertexSet) (k : ℕ) → 0 < count S (range (q .vertices)) → count S (range (q .vertices)) + k ≡ q .vertices
+    pub extends-pass : connected q ≡ true → (S : VertexSet) (k : ℕ) → 0 < countIf S (range (q .vertices)) → countIf S (range (q .vertices)) + k ≡ q .vertices
         → rulesFault q (S ∷ []) (map extend (extendsFrom q S k)) ≡ 0
     unfolding extendsFrom rulesFault endFault ruleFault covered
     extends-pass c S zero l e =
@@ -117,5 +117,5 @@ module _ (q : Query) where
         d : (S v ≡ false) × (touches q v S ≡ true)
         d = next-touches q S some c l (omega arith)
 
-        more : count (plus v S) (range (q .vertices)) ≡ 1 + count S (range (q .vertices))
+        more : countIf (plus v S) (range (q .vertices)) ≡ 1 + countIf S (range (q .vertices))
         more = count-plus v (q .vertices) S (next-below q S some) (d .0)

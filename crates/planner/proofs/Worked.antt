@@ -4,7 +4,7 @@ use mathlib.Core.Path.{_≡_, refl}
 use mathlib.Core.List.{List, [], _∷_, flatMap}
 use Prim.Native.Nat.{ℕ}
 use lib.ListN.{drop}
-use Rattle.lists.specs.Lists.{range, all, any, keep, count, same, ascendsFrom, ascending, insert, sort}
+use Rattle.lists.specs.Lists.{range, all, any, keep, countIf, same, ascendsFrom, ascending, insertSorted, sort}
 use Rattle.lists.specs.Refusal.{first}
 use Rattle.packed.specs.Field.{bitAt, fieldAt, fillSet}
 use Rattle.packed.specs.Encode.{number, bitsOf, bytesOf}
@@ -36,10 +36,10 @@ fileRare =
 -- Scan 0, extend 2; scan 2, extend 0.
 pub plans : drawBytes storeG fileQ (9 ∷ 9 ∷ 9 ∷ 9 ∷ []) ∷ drawBytes storeG fileRare (9 ∷ 9 ∷ 9 ∷ 9 ∷ []) ∷ []
     ≡ (0x10 ∷ 0x05 ∷ 0x00 ∷ 9 ∷ []) ∷ (0x10 ∷ 0x24 ∷ 0x00 ∷ 9 ∷ []) ∷ []
-unfolding storeG fileQ fileRare drawBytes drawFault drawnPlan planBits chosen edgesOf scanEdge degree nextVertex extendsFrom queryFault queryOf connected reached storeFault wellFormed graphIn storeOf entries offsets covers number bitsOf bytesOf bitAt fieldAt fillSet first range all any keep count same ascendsFrom ascending insert sort flatMap
+unfolding storeG fileQ fileRare drawBytes drawFault drawnPlan planBits chosen edgesOf scanEdge degree nextVertex extendsFrom queryFault queryOf connected reached storeFault wellFormed graphIn storeOf entries offsets covers number bitsOf bytesOf bitAt fieldAt fillSet first range all any keep countIf same ascendsFrom ascending insertSorted sort flatMap
 plans = refl
 
 -- Two bytes are too few, a cut store is refused, and before it a cut query.
 pub refusals : drawFault storeG fileQ 2 ∷ drawFault (drop 1 storeG) fileQ 9 ∷ drawFault (drop 1 storeG) (drop 1 fileQ) 9 ∷ [] ≡ 24 ∷ 19 ∷ 8 ∷ []
-unfolding storeG fileQ drawFault drawnPlan planBits chosen edgesOf scanEdge degree nextVertex extendsFrom queryFault queryOf connected reached storeFault wellFormed graphIn storeOf entries offsets covers number bitsOf bytesOf bitAt fieldAt fillSet first range all any keep count same ascendsFrom ascending insert sort flatMap
+unfolding storeG fileQ drawFault drawnPlan planBits chosen edgesOf scanEdge degree nextVertex extendsFrom queryFault queryOf connected reached storeFault wellFormed graphIn storeOf entries offsets covers number bitsOf bytesOf bitAt fieldAt fillSet first range all any keep countIf same ascendsFrom ascending insertSorted sort flatMap
 refusals = refl

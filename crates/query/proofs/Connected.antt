@@ -5,7 +5,7 @@ use Prim.Native.Nat.{ℕ, zero, suc, _+_, _<_}
 use native.Mathlib.Omega.{arith}
 use lib.Dec.{eqb, ltb}
 use borrow.Author.Tests.{ltb-true, lt-ltb, eqb-true}
-use Rattle.lists.specs.Lists.{bit, range, any, count}
+use Rattle.lists.specs.Lists.{bit, range, any, countIf}
 use Rattle.lists.proofs.Tests.{clash, fails, and-l, and-r, and-both, or-elim, not-true, not-false}
 use Rattle.lists.proofs.All.{all-true, all-at, length-range}
 use Rattle.lists.proofs.Any.{any-count, any-follows, any-at, any-below}
@@ -23,16 +23,16 @@ neighbours-turn q v u t =
     (λ e h. or-comm (eqb (e .source) u && eqb (e .target) v) (eqb (e .source) v && eqb (e .target) u) ∙ h)
 
 -- A number below n is missing in S where fewer are in it.
-some-missing : (S : VertexSet) (n : ℕ) → count S (range n) < n → any (λ (w : ℕ). not (S w)) (range n) ≡ true
+some-missing : (S : VertexSet) (n : ℕ) → countIf S (range n) < n → any (λ (w : ℕ). not (S w)) (range n) ≡ true
 some-missing S n h =
     any-count (λ (w : ℕ). not (S w)) (range n)
-    ∙ lt-ltb 0 (count (λ (w : ℕ). not (S w)) (range n)) (omega (arith, both, count-all {A = ℕ} (λ w. true) (range n) (all-true (range n)), length-range n))
+    ∙ lt-ltb 0 (countIf (λ (w : ℕ). not (S w)) (range n)) (omega (arith, both, count-all {A = ℕ} (λ w. true) (range n) (all-true (range n)), length-range n))
   where
     one : (b : Bool) → bit true ≡ bit b + bit (not b)
     one true = refl
     one false = refl
 
-    both : count (λ (w : ℕ). true) (range n) ≡ count S (range n) + count (λ (w : ℕ). not (S w)) (range n)
+    both : countIf (λ (w : ℕ). true) (range n) ≡ countIf S (range n) + countIf (λ (w : ℕ). not (S w)) (range n)
     both = count-sum (λ (w : ℕ). true) S (λ (w : ℕ). not (S w)) (range n) (λ w. one (S w))
 
 module _ (q : Query) where
@@ -97,7 +97,7 @@ module _ (q : Query) where
           clash (any-at (λ (v : ℕ). not (S v) && touches q v S) (q .vertices) v h (and-both (not (S v)) (touches q v S) o t)) e))))
 
   -- The same by how many vertices of the query the set has: some, and not all.
-  pub beside-counted : (S : VertexSet) → connected q ≡ true → 0 < count S (range (q .vertices)) → count S (range (q .vertices)) < q .vertices → Beside q S
+  pub beside-counted : (S : VertexSet) → connected q ≡ true → 0 < countIf S (range (q .vertices)) → countIf S (range (q .vertices)) < q .vertices → Beside q S
   beside-counted S c some less =
       any-below S (q .vertices) (any-count S (range (q .vertices)) ∙ lt-ltb 0 _ some)
       (λ a ha ia. any-below (λ (w : ℕ). not (S w)) (q .vertices) (some-missing S (q .vertices) less)

@@ -9,7 +9,7 @@ use lib.Dec.{eqb, leb, ltb, leb·suc-suc}
 use lib.ListN.{length, getD, take, drop}
 use lib.Seq.{take-nil, drop-nil}
 use borrow.Author.Tests.{ltb-true, ltb-false, lt-ltb, le-ltb, le-leb, lt-leb, ne-eqb}
-use Rattle.lists.specs.Lists.{any, keep, count, ascending}
+use Rattle.lists.specs.Lists.{any, keep, countIf, ascending}
 use Rattle.lists.proofs.Tests.{eqb-sym}
 use Rattle.lists.proofs.All.{all-getD, all-follows, keep-all, keep-none}
 use Rattle.lists.proofs.Count.{count-le, count-passes}
@@ -31,13 +31,13 @@ not-equal x w h = ne-eqb x w (λ i. omega (arith, ltb-true x w h))
 
 -- The first word counts where it is below x. Where it is not, no word is.
 below-in : (x w : ℕ) (s : List ℕ) → ltb w x ≡ true → below x (w ∷ s) ≡ suc (below x s)
-unfolding below count
+unfolding below countIf
 below-in x w s h = rw h (omega arith)
 
 below-out : (x w : ℕ) (s : List ℕ) → ascending (w ∷ s) ≡ true → ltb w x ≡ false → below x (w ∷ s) ≡ 0
-unfolding below count
+unfolding below countIf
 below-out x w s e h =
-    rw h (zero-add (count (λ (v : ℕ). ltb v x) s) ∙ count-passes (λ (v : ℕ). ltb v x) (ltb x) s (ascending-rest x w s e h) (not-below x))
+    rw h (zero-add (countIf (λ (v : ℕ). ltb v x) s) ∙ count-passes (λ (v : ℕ). ltb v x) (ltb x) s (ascending-rest x w s e h) (not-below x))
 
 -- A word below x is one of the first that are.
 pub below-past : (x : ℕ) (s : List ℕ) (i : ℕ) → ascending s ≡ true → i < length s → getD s i 0 < x → i < below x s

@@ -8,7 +8,7 @@ use lib.Dec.{eqb, ltb}
 use lib.ListN.{length, getD, set, replicate, length-set, length-replicate, getD-replicate}
 use lib.Seq.{ext-getD, getD-set-other}
 use borrow.Author.Tests.{ltb-true, lt-ltb, ltb-false, eq-eqb, ne-eqb, eqb-true, eqb-false}
-use Rattle.lists.specs.Lists.{range, all, count, total}
+use Rattle.lists.specs.Lists.{range, all, countIf, total}
 use Rattle.lists.proofs.Tests.{clash, iff}
 use Rattle.lists.proofs.All.{length-range, all-range}
 use Rattle.lists.proofs.Count.{count-snoc, count-all, count-passes}
@@ -45,13 +45,13 @@ module _ {starts : List ℕ} {next base : ℕ} (h : Begins starts next base) whe
   earlier v l = omega (arith, begins-before offsets base v (rw (h .before) at l))
 
   -- The lists before the block are in its first group.
-  first-sizes : (j : ℕ) → j < 1024 → getD (set (replicate 1024 0) 0 next) j 0 ≡ count (λ (v : ℕ). eqb (startIn starts base v) j) (range next)
+  first-sizes : (j : ℕ) → j < 1024 → getD (set (replicate 1024 0) 0 next) j 0 ≡ countIf (λ (v : ℕ). eqb (startIn starts base v) j) (range next)
   first-sizes j l = go (eqb j 0) refl
     where
       all-first : all (λ (v : ℕ). eqb (startIn starts base v) 0) (range next) ≡ true
       all-first = all-range (λ (v : ℕ). eqb (startIn starts base v) 0) next (λ v k. eq-eqb (startIn starts base v) 0 (earlier v k))
 
-      go : (b : Bool) → eqb j 0 ≡ b → getD (set (replicate 1024 0) 0 next) j 0 ≡ count (λ (v : ℕ). eqb (startIn starts base v) j) (range next)
+      go : (b : Bool) → eqb j 0 ≡ b → getD (set (replicate 1024 0) 0 next) j 0 ≡ countIf (λ (v : ℕ). eqb (startIn starts base v) j) (range next)
       go true t =
           rw (eqb-true j 0 t)
           (sym (count-all (λ (v : ℕ). eqb (startIn starts base v) 0) (range next) all-first ∙ length-range next))
@@ -76,16 +76,16 @@ module _ {starts : List ℕ} {next base : ℕ} (h : Begins starts next base) whe
 
   -- Lists that begin after the block are in none of its groups.
   later-size : (j : ℕ) → j < 1024 → (v n : ℕ) → v ≤ n → ((w : ℕ) → v ≤ w → w < n → 1024 ≤ startIn starts base w)
-      → count (λ (w : ℕ). eqb (startIn starts base w) j) (range v) ≡ count (λ (w : ℕ). eqb (startIn starts base w) j) (range n)
+      → countIf (λ (w : ℕ). eqb (startIn starts base w) j) (range v) ≡ countIf (λ (w : ℕ). eqb (startIn starts base w) j) (range n)
   unfolding range
-  later-size j k v zero l f = ap (λ (i : ℕ). count (λ (w : ℕ). eqb (startIn starts base w) j) (range i)) (let e : v ≡ 0 = omega arith in e)
+  later-size j k v zero l f = ap (λ (i : ℕ). countIf (λ (w : ℕ). eqb (startIn starts base w) j) (range i)) (let e : v ≡ 0 = omega arith in e)
   later-size j k v (suc n) l f = last (ltb n v) refl (later-size j k v n)
     where
       last : (b : Bool) → ltb n v ≡ b
           → (v ≤ n → ((w : ℕ) → v ≤ w → w < n → 1024 ≤ startIn starts base w)
-          → count (λ (w : ℕ). eqb (startIn starts base w) j) (range v) ≡ count (λ (w : ℕ). eqb (startIn starts base w) j) (range n))
-          → count (λ (w : ℕ). eqb (startIn starts base w) j) (range v) ≡ count (λ (w : ℕ). eqb (startIn starts base w) j) (range (suc n))
-      last true t r = ap (λ (i : ℕ). count (λ (w : ℕ). eqb (startIn starts base w) j) (range i)) (let e : v ≡ suc n = omega (arith, ltb-true n v t) in e)
+          → countIf (λ (w : ℕ). eqb (startIn starts base w) j) (range v) ≡ countIf (λ (w : ℕ). eqb (startIn starts base w) j) (range n))
+          → countIf (λ (w : ℕ). eqb (startIn starts base w) j) (range v) ≡ countIf (λ (w : ℕ). eqb (startIn starts base w) j) (range (suc n))
+      last true t r = ap (λ (i : ℕ). countIf (λ (w : ℕ). eqb (startIn starts base w) j) (range i)) (let e : v ≡ suc n = omega (arith, ltb-true n v t) in e)
       last false t r =
           r (ltb-false n v t) (λ w a b. f w a (omega arith))
           ∙ sym (count-snoc (λ (w : ℕ). eqb (startIn starts base w) j) (range n) n
@@ -95,7 +95,7 @@ module _ {starts : List ℕ} {next base : ℕ} (h : Begins starts next base) whe
       → groupSizes (startIn starts base) 1024 (range v) ≡ groupSizes (startIn starts base) 1024 (range n)
   unfolding groupSizes
   later-sizes v n l f =
-      image-ext (λ (j : ℕ). count (λ (w : ℕ). eqb (startIn starts base w) j) (range v)) (λ (j : ℕ). count (λ (w : ℕ). eqb (startIn starts base w) j) (range n)) 1024
+      image-ext (λ (j : ℕ). countIf (λ (w : ℕ). eqb (startIn starts base w) j) (range v)) (λ (j : ℕ). countIf (λ (w : ℕ). eqb (startIn starts base w) j) (range n)) 1024
       (λ j k. later-size j k v n l f)
 
   -- The loop ends at a list that begins after the block, or after the last list.
@@ -114,10 +114,10 @@ module _ {starts : List ℕ} {next base : ℕ} (h : Begins starts next base) whe
   unfolding groupEnds begunIn begun
   begun-sums e f =
       f ∙ ap runningSums e ∙ sums-ends (startIn starts base) 1024 (range (length starts - 1))
-      ∙ image-ext (λ (j : ℕ). count (λ (v : ℕ). ltb (startIn starts base v) (suc j)) (range (length starts - 1)))
-      (λ (j : ℕ). count (λ (v : ℕ). ltb (getD starts v 0) (base + suc j)) (range (length starts - 1))) 1024
+      ∙ image-ext (λ (j : ℕ). countIf (λ (v : ℕ). ltb (startIn starts base v) (suc j)) (range (length starts - 1)))
+      (λ (j : ℕ). countIf (λ (v : ℕ). ltb (getD starts v 0) (base + suc j)) (range (length starts - 1))) 1024
       (λ j l.
-      ap (λ (p : ℕ → Bool). count p (range (length starts - 1)))
+      ap (λ (p : ℕ → Bool). countIf p (range (length starts - 1)))
       (fun-ext (λ (v : ℕ).
       iff (ltb (startIn starts base v) (suc j)) (ltb (getD starts v 0) (base + suc j))
       (λ t. lt-ltb (getD starts v 0) (base + suc j) (omega (arith, ltb-true (startIn starts base v) (suc j) t)))

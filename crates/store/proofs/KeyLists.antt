@@ -9,7 +9,7 @@ use native.Mathlib.Omega.{arith}
 use lib.Dec.{eqb, ltb}
 use lib.ListN.{length, length-map}
 use borrow.Author.Tests.{eqb-true, eq-eqb, ltb-true, lt-ltb, le-ltb}
-use Rattle.lists.specs.Lists.{range, all, count, ascending}
+use Rattle.lists.specs.Lists.{range, all, countIf, ascending}
 use Rattle.lists.proofs.Tests.{and-both}
 use Rattle.lists.proofs.All.{all-append, all-follows, all-true}
 use Rattle.lists.proofs.Count.{all-map, count-append, count-map, count-none, count-all}
@@ -81,21 +81,21 @@ module _ (part : ℕ → List ℕ) where
       ∙ all-follows (λ (k : ℕ). true) (λ (k : ℕ). not (ltb (keyAt n k) (n * 16777216))) (part n) (all-true (part n))
       (λ k t. ap not (le-ltb (keyAt n k) (n * 16777216) (omega arith))))
 
-  whole : (n : ℕ) → Fit part n → count (λ (k : ℕ). ltb k (n * 16777216)) (keysOf part n) ≡ length (flatMap part (range n))
+  whole : (n : ℕ) → Fit part n → countIf (λ (k : ℕ). ltb k (n * 16777216)) (keysOf part n) ≡ length (flatMap part (range n))
   whole n fit =
       count-all (λ (k : ℕ). ltb k (n * 16777216)) (keysOf part n) (keys-under n fit)
       ∙ sym (length-map (keysOf part n) (λ (k : ℕ). k % 16777216)) ∙ ap length (keys-entries n fit)
 
   -- Before the first key of v stand the entries of the vertices below v.
-  pub keys-before : (n v : ℕ) → Fit part n → v ≤ n → count (λ (k : ℕ). ltb k (v * 16777216)) (keysOf part n) ≡ length (flatMap part (range v))
+  pub keys-before : (n v : ℕ) → Fit part n → v ≤ n → countIf (λ (k : ℕ). ltb k (v * 16777216)) (keysOf part n) ≡ length (flatMap part (range v))
   keys-before zero v fit h = rw (let e : v ≡ 0 = omega arith in e) (whole zero fit)
   keys-before (suc n) v fit h = go (keys-before n v (λ v l. fit v (omega arith))) (eq-or-lt-of-le h)
     where
-      go : (v ≤ n → count (λ (k : ℕ). ltb k (v * 16777216)) (keysOf part n) ≡ length (flatMap part (range v))) → (v ≡ suc n) ⊎ (v < suc n)
-          → count (λ (k : ℕ). ltb k (v * 16777216)) (keysOf part (suc n)) ≡ length (flatMap part (range v))
+      go : (v ≤ n → countIf (λ (k : ℕ). ltb k (v * 16777216)) (keysOf part n) ≡ length (flatMap part (range v))) → (v ≡ suc n) ⊎ (v < suc n)
+          → countIf (λ (k : ℕ). ltb k (v * 16777216)) (keysOf part (suc n)) ≡ length (flatMap part (range v))
       go f (inl e) = rw e (whole (suc n) fit)
       go f (inr l) =
-          ap (count (λ (k : ℕ). ltb k (v * 16777216))) (keys-suc part n)
+          ap (countIf (λ (k : ℕ). ltb k (v * 16777216))) (keys-suc part n)
           ∙ count-append (λ (k : ℕ). ltb k (v * 16777216)) (keysOf part n) (map (keyAt n) (part n))
           ∙ ap₂ (λ (a b : ℕ). a + b) (f (omega arith))
           (count-map (λ (k : ℕ). ltb k (v * 16777216)) (keyAt n) (part n)

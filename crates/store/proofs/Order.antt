@@ -12,7 +12,7 @@ use lib.Dec.{eqb, leb, ltb}
 use lib.ListN.{length, getD, take, drop, length-drop, drop-of-length-le}
 use lib.Seq.{take-suc, drop-cons, getD-take, getD-drop, length-take-le}
 use borrow.Author.Tests.{eq-eqb, ne-eqb, eqb-true, ltb-false, lt-ltb, le-ltb, leb-true, leb-false, lt-leb}
-use Rattle.lists.specs.Lists.{bit, range, all, count, total, ascendsFrom, ascending}
+use Rattle.lists.specs.Lists.{bit, range, all, countIf, total, ascendsFrom, ascending}
 use Rattle.lists.proofs.Tests.{iff, and-l, and-r, and-both}
 use Rattle.lists.proofs.All.{all-and, all-follows}
 use Rattle.lists.proofs.Count.{count-snoc, total-append, total-suc, all-flatMap}
@@ -169,12 +169,12 @@ module _ (store : List ℕ) (n side v : ℕ) where
       (sym (lt-ltb (getD store (side + v) 0) (getD store (side + v + 1) 0) h))
 
 -- The lists whose first word falls, one after the other.
-pub starts-next : (store : List ℕ) (n side v : ℕ) {sum r : ℕ} → sum ≡ count (startFalls store n side) (range v) → r ≡ bit (startFalls store n side v)
-    → sum + r ≡ count (startFalls store n side) (range (v + 1))
+pub starts-next : (store : List ℕ) (n side v : ℕ) {sum r : ℕ} → sum ≡ countIf (startFalls store n side) (range v) → r ≡ bit (startFalls store n side v)
+    → sum + r ≡ countIf (startFalls store n side) (range (v + 1))
 unfolding range
 starts-next store n side v e f =
     ap₂ (λ (a b : ℕ). a + b) e f ∙ sym (count-snoc (startFalls store n side) (range v) v)
-    ∙ ap (λ (k : ℕ). count (startFalls store n side) (range k)) (sym (add-one v))
+    ∙ ap (λ (k : ℕ). countIf (startFalls store n side) (range k)) (sym (add-one v))
 
 -- ---- the lists of a side
 
@@ -228,8 +228,8 @@ module _ (store : List ℕ) (n m side : ℕ) (room : side + n + 1 + m ≤ length
 
   -- Of all that fall, some are first words, and the others stand within lists.
   falls-parted : (v : ℕ) → v ≤ n
-      → fallsFrom first (flatMap lists (range v)) ≡ count (startFalls store n side) (range v) + total (λ (u : ℕ). within (lists u)) (range v)
-  unfolding fallsFrom count total range flatMap
+      → fallsFrom first (flatMap lists (range v)) ≡ countIf (startFalls store n side) (range v) + total (λ (u : ℕ). within (lists u)) (range v)
+  unfolding fallsFrom countIf total range flatMap
   falls-parted zero h = refl
   falls-parted (suc v) h =
       ap (fallsFrom first) (flatMap-suc lists v) ∙ falls-append first (flatMap lists (range v)) (lists v)
@@ -267,7 +267,7 @@ module _ (store : List ℕ) (n m side : ℕ) (room : side + n + 1 + m ≤ length
 
     module _ {a b : ℕ}
         (d : let p = take (side + n + 1 + m - (side + n)) (drop (side + n) store) in a ≡ fallsFrom (getD p 0 0) (drop 1 p))
-        (c : b ≡ count (startFalls store n side) (range n)) where
+        (c : b ≡ countIf (startFalls store n side) (range n)) where
       part : take (side + n + 1 + m - (side + n)) (drop (side + n) store) ≡ first ∷ take m entries
       part =
           ap (λ (k : ℕ). take k (drop (side + n) store)) (let i : side + n + 1 + m - (side + n) ≡ suc m = omega arith in i)

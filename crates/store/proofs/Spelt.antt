@@ -9,7 +9,7 @@ use lib.Dec.{ltb}
 use lib.ListN.{length, getD, take, drop, length-map, length-drop, take-append-drop}
 use lib.Seq.{length-take-le, getD-drop, drop-cons, drop-drop}
 use borrow.Author.Tests.{ltb-true, lt-ltb}
-use Rattle.lists.specs.Lists.{range, all, count, ascending, sort}
+use Rattle.lists.specs.Lists.{range, all, countIf, ascending, sort}
 use Rattle.lists.proofs.Tests.{and-l, and-r, and-both}
 use Rattle.lists.proofs.All.{all-at, all-range, all-follows, all-and, map-getD}
 use Rattle.lists.proofs.Count.{all-map, all-flatMap}
@@ -179,7 +179,7 @@ module _ (store : List ℕ) (passed : Passed store) where
   -- Its offsets and entries are those of the graph.
   offset-spelt : (d : Direction) (v : ℕ) → v ≤ n → offset d g v ≡ getD (drop (sideIn d store) store) v 0
   offset-spelt d v h =
-      keys-below g well d v ∙ ap (count (λ (k : ℕ). ltb k (v * 16777216))) (sorted d)
+      keys-below g well d v ∙ ap (countIf (λ (k : ℕ). ltb k (v * 16777216))) (sorted d)
       ∙ keys-before (listTo store d) n v (list-fit d) h
       ∙ offsets-length store n m (sideIn d store) (side-room d) (rising d) v h
       ∙ sym (getD-drop (sideIn d store) store v 0)

@@ -7,7 +7,7 @@ use native.Mathlib.Omega.{arith}
 use lib.Dec.{eqb, ltb}
 use lib.ListN.{length, getD}
 use borrow.Author.Tests.{eqb-true, ltb-true, lt-ltb, le-ltb}
-use Rattle.lists.specs.Lists.{_⇒_, all, ascendsFrom}
+use Rattle.lists.specs.Lists.{_implies_, all, ascendsFrom}
 use Rattle.lists.proofs.Tests.{and-both, imp-intro, eqb-refl}
 use Rattle.lists.proofs.All.{all-mem, mem-all, mem-any, all-range, all-follows, all-under, all-and}
 use Rattle.lists.proofs.Count.{count-none, count-all}
@@ -41,7 +41,7 @@ list-mirrored : (g : Graph) → WellFormed g → (v : ℕ)
     → all (λ (k : ℕ). member (mirror v k) (listOf backward g (k % 65536))) (listOf forward g v) ≡ true
 list-mirrored g w v =
     list-all (λ (k : ℕ). member (mirror v k) (listOf backward g (k % 65536))) forward g v
-    ∙ all-mem (λ (e : Edge). eqb (e .source) v ⇒ member (mirror v (entry forward e)) (listOf backward g (entry forward e % 65536))) (g .edges)
+    ∙ all-mem (λ (e : Edge). eqb (e .source) v implies member (mirror v (entry forward e)) (listOf backward g (entry forward e % 65536))) (g .edges)
     (λ e i. imp-intro (eqb (e .source) v) (member (mirror v (entry forward e)) (listOf backward g (entry forward e % 65536)))
     (λ t.
     let l : e .target < 65536 = omega (arith, far-in g w forward e (mem-all (fitting (g .vertices)) i (w .edges-fit)), w .few-vertices) in

@@ -5,7 +5,7 @@ use mathlib.Core.List.{List, _++_, map, flatMap}
 use Prim.Native.Nat.{ℕ, suc, _+_, _-_, _*_, _/_, _%_, _≤_, _<_}
 use lib.Dec.{eqb, ltb}
 use lib.ListN.{length, getD, drop}
-use Rattle.lists.specs.Lists.{range, all, keep, count, ascending, sort}
+use Rattle.lists.specs.Lists.{range, all, keep, countIf, ascending, sort}
 use Rattle.graph.specs.Graph.{entryEnd, Direction, forward, backward, key}
 use Rattle.adjacency.specs.inner.Side.{listOn, Within}
 use Rattle.change_file.specs.File.{changeCount, changedEdge}
@@ -53,7 +53,7 @@ pub record Mergeable (xs cs : List ℕ) (v from room : ℕ) : Type 0 where
 
 -- How many keys are of vertices below v, and their entries.
 abbrev pub below : ℕ → List ℕ → ℕ
-below v ks = count (λ (k : ℕ). ltb k (v * entryEnd)) ks
+below v ks = countIf (λ (k : ℕ). ltb k (v * entryEnd)) ks
 
 abbrev pub entriesBelow : ℕ → List ℕ → List ℕ
 entriesBelow v ks = map (λ (k : ℕ). k % entryEnd) (keep (λ (k : ℕ). ltb k (v * entryEnd)) ks)
@@ -116,4 +116,4 @@ pub record Moved (from : List ℕ) (many less more : ℕ) (to₀ to : List ℕ) 
 
 -- No two changes of a file have one backward key.
 abbrev pub Distinct : List ℕ → Type 0
-Distinct s = (x : ℕ) → count (λ (y : ℕ). eqb y x) (map (λ (i : ℕ). key backward (changedEdge s i)) (range (changeCount s))) ≤ 1
+Distinct s = (x : ℕ) → countIf (λ (y : ℕ). eqb y x) (map (λ (i : ℕ). key backward (changedEdge s i)) (range (changeCount s))) ≤ 1

@@ -5,7 +5,7 @@ use mathlib.Core.List.{List, map}
 use Prim.Native.Nat.{ℕ, suc, _/_, _≤_, _<_}
 use lib.Dec.{ltb}
 use lib.ListN.{length}
-use Rattle.lists.specs.Lists.{range, all, count}
+use Rattle.lists.specs.Lists.{range, all, countIf}
 use Rattle.graph.specs.Graph.{Graph, maxEdgeLabel, maxGraphEdges, entrySpan, entryEnd, covers}
 use Rattle.query.specs.File.{minVertices}
 use Rattle.query.specs.inner.Struct.{queryIn, Held, byteLabel}
@@ -14,7 +14,7 @@ use Rattle.ordering.specs.Order.{edgesOf}
 
 -- What a label counts in a list of entries, for every label.
 unfoldable pub labelCounts : List ℕ → List ℕ
-labelCounts entries = map (λ (l : ℕ). count (λ (k : ℕ). covers l (k / entrySpan)) entries) (range (suc maxEdgeLabel))
+labelCounts entries = map (λ (l : ℕ). countIf (λ (k : ℕ). covers l (k / entrySpan)) entries) (range (suc maxEdgeLabel))
 
 -- The data edges of every label.
 unfoldable pub edgeCounts : Graph → List ℕ

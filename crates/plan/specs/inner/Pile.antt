@@ -4,7 +4,7 @@ use mathlib.Core.List.{List, [], _∷_}
 use Prim.Native.Nat.{ℕ, zero, suc}
 use lib.ListN.{length, getD}
 use lib.Dec.{ltb}
-use Rattle.lists.specs.Lists.{_⇒_}
+use Rattle.lists.specs.Lists.{_implies_}
 use Rattle.graph.specs.Graph.{Edge}
 use Rattle.query.specs.Query.{Query, VertexSet, inside}
 use Rattle.plan.specs.Plan.{Operator, scan, extend, join, union}
@@ -22,4 +22,4 @@ named q join = true
 
 -- A query edge is not lost in a join: 'every query edge within their union lies within one of them'.
 abbrev pub kept : VertexSet → VertexSet → Edge → Bool
-kept B P e = inside (union B P) e ⇒ (inside B e || inside P e)
+kept B P e = inside (union B P) e implies (inside B e || inside P e)

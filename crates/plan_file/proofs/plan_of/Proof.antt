@@ -1,9 +1,10 @@
 -- `plan_file::plan_of` meets its contract: the loop has copied i operators. Assumes nothing.
-use mathlib.Core.Path.{_≡_}
+use mathlib.Core.Path.{_≡_, _∙_}
 use denote.Ref.{now}
 use Prim.Native.Nat.{_+_, _-_, _≤_, _<_}
 use native.Mathlib.Omega.{arith}
 use lib.Dec.{lit≤}
+use borrow.Author.Needs.{needs}
 use Rattle.packed.specs.Field.{bitsIn}
 use Rattle.packed.proofs.Laws.{field-lt}
 use Rattle.plan.specs.File.{kindAt, operandBits}
@@ -67,11 +68,14 @@ loop-again c =
     let l = c .before .before .before in
     (omega arith, copied-more _ (l .before .loop .inv .1) (index l) (c .before .before .field .ensures) (c .before .operand .ensures) (c .next-place .ensures .0) (c .next-place .ensures .1))
 
+new-requires : tie.Need-new-requires Inv-loop μ-loop
+new-requires c κs = search needs
+
 returns : tie.Need-returns Inv-loop μ-loop
 returns c =
-    let l = c .before in
+    let l = c .before .before in
     let all : l .loop .i ≡ l .before .operator-count .result = omega arith in
-    copied-all _ (l .before .operator-count .ensures) (rw all at (l .loop .inv .1))
+    c .new .ensures ∙ copied-all _ (l .before .operator-count .ensures) (rw all at (l .loop .inv .1))
 
 pub plan-of-spec : {M : Type 1} → statement M
 plan-of-spec =
@@ -91,4 +95,5 @@ plan-of-spec =
     add-i
     loop-less
     loop-again
+    new-requires
     returns)

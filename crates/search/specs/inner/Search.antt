@@ -4,11 +4,11 @@ use mathlib.Core.List.{List}
 use Prim.Native.Nat.{ℕ, _+_}
 use lib.Dec.{eqb, ltb}
 use lib.ListN.{length, drop}
-use Rattle.lists.specs.Lists.{any, count}
+use Rattle.lists.specs.Lists.{any, countIf}
 
 -- How many words are below x.
 unfoldable pub below : ℕ → List ℕ → ℕ
-below x s = count (λ (w : ℕ). ltb w x) s
+below x s = countIf (λ (w : ℕ). ltb w x) s
 
 -- The first index from `from` on whose word is not below x. In an ascending list the words below x come first, so that it is `from`
 -- and one more for each of them from there on.

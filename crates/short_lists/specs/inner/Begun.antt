@@ -5,7 +5,7 @@ use mathlib.Core.List.{List, map}
 use Prim.Native.Nat.{ℕ, suc, _+_, _-_, _%_, _≤_, _<_}
 use lib.Dec.{ltb}
 use lib.ListN.{length, getD}
-use Rattle.lists.specs.Lists.{range, all, count}
+use Rattle.lists.specs.Lists.{range, all, countIf}
 use Rattle.graph.specs.Graph.{maxGraphVertices, maxGraphEdges, entrySpan, entryEnd}
 use Rattle.adjacency.specs.inner.Side.{listOn}
 use Rattle.adjacency.specs.inner.Portion.{member}
@@ -17,7 +17,7 @@ blockEntries = 1024
 
 -- How many lists begin before entry i, by where each begins. The last of the offsets is where the entries end.
 unfoldable pub begun : List ℕ → ℕ → ℕ
-begun starts i = count (λ (v : ℕ). ltb (getD starts v 0) i) (range (length starts - 1))
+begun starts i = countIf (λ (v : ℕ). ltb (getD starts v 0) i) (range (length starts - 1))
 
 -- The same at each entry of a block or before it.
 unfoldable pub begunIn : List ℕ → ℕ → List ℕ

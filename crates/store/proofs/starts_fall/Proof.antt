@@ -2,20 +2,20 @@
 use mathlib.Core.Path.{_≡_, refl, _∙_, ap}
 use Prim.Native.Nat.{ℕ, _-_, _≤_}
 use native.Mathlib.Omega.{arith}
-use Rattle.lists.specs.Lists.{range, count}
+use Rattle.lists.specs.Lists.{range, countIf}
 use Rattle.store.specs.inner.Order.{startFalls}
 use Rattle.store.proofs.Order.{starts-next}
 use Rattle.store.proofs.starts_fall.Statement.{statement}
 use Rattle.store.proofs.starts_fall.Tie as tie
 
 abbrev Inv-loop : tie.InvT-loop
-Inv-loop store n side sum₀ v₀ sum v = (v ≤ n) × (sum ≤ v) × (sum ≡ count (startFalls store n side) (range v))
+Inv-loop store n side sum₀ v₀ sum v = (v ≤ n) × (sum ≤ v) × (sum ≡ countIf (startFalls store n side) (range v))
 
 abbrev μ-loop : tie.MeasureT-loop
 μ-loop store n side sum₀ v₀ sum v = n - v
 
 loop-holds : tie.Need-loop-holds Inv-loop μ-loop
-unfolding count range
+unfolding countIf range
 loop-holds c = (omega arith, omega arith, refl)
 
 start-falls-requires : tie.Need-start-falls-requires Inv-loop μ-loop
@@ -40,7 +40,7 @@ returns : tie.Need-returns Inv-loop μ-loop
 returns c =
     let a = c .before .before .before .args in
     c .before .loop .inv .2
-    ∙ ap (λ (k : ℕ). count (startFalls (a .store .now) (a .n) (a .side)) (range k)) (let e : c .before .loop .v ≡ a .n = omega arith in e)
+    ∙ ap (λ (k : ℕ). countIf (startFalls (a .store .now) (a .n) (a .side)) (range k)) (let e : c .before .loop .v ≡ a .n = omega arith in e)
 
 pub starts-fall-spec : {M : Type 1} → statement M
 starts-fall-spec =

@@ -4,14 +4,14 @@ use mathlib.Core.Path.{_≡_}
 use Prim.Native.Nat.{_-_, _≤_}
 use native.Mathlib.Numerals.{add-one}
 use borrow.Author.Needs.{needs}
-use Rattle.lists.specs.Lists.{range, count}
+use Rattle.lists.specs.Lists.{range, countIf}
 use Rattle.change_file.specs.File.{addsIn}
 use Rattle.changes.proofs.Present.{count-zero, count-next}
 use Rattle.changes.proofs.edits.additions.Statement.{statement}
 use Rattle.changes.proofs.edits.additions.Tie as tie
 
 abbrev Inv-loop : tie.InvT-loop
-Inv-loop file k sum₀ i₀ sum i = (i ≤ k) × (sum ≤ i) × (sum ≡ count (addsIn file) (range i))
+Inv-loop file k sum₀ i₀ sum i = (i ≤ k) × (sum ≤ i) × (sum ≡ countIf (addsIn file) (range i))
 
 abbrev μ-loop : tie.MeasureT-loop
 μ-loop file k sum₀ i₀ sum i = k - i
