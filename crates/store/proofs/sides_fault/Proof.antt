@@ -3,19 +3,19 @@ use mathlib.Core.Path.{_≡_}
 use mathlib.Core.Bool.{true}
 use denote.Ref.{now}
 use Rattle.short_lists.specs.inner.Check.{offsetsFit, offsetsOn}
-use Rattle.store.proofs.Counting.{forward-room, backward-room}
+use Rattle.store.proofs.Counting.{counted-few, forward-room, backward-room}
 use Rattle.store.proofs.Decided.{ahead-refuses, back-refuses, offsets-pass, both-rise, walk-decides}
 use Rattle.store.proofs.sides_fault.Statement.{statement}
 use Rattle.store.proofs.sides_fault.Tie as tie
 
 side-offsets-fault-requires : tie.Need-side-offsets-fault-requires
-side-offsets-fault-requires c κs = forward-room (c .before .pre .0)
+side-offsets-fault-requires c κs = (forward-room (c .before .pre .0), counted-few (c .before .pre .0))
 
 returns : tie.Need-returns
 returns c = ahead-refuses (c .before .before .before .pre .0) (c .before .side-offsets-fault .ensures) (c .if1 .taken)
 
 side-offsets-fault-requires-2 : tie.Need-side-offsets-fault-requires-2
-side-offsets-fault-requires-2 c κs = backward-room (c .before .before .before .pre .0)
+side-offsets-fault-requires-2 c κs = (backward-room (c .before .before .before .pre .0), counted-few (c .before .before .before .pre .0))
 
 returns-2 : tie.Need-returns-2
 returns-2 c = back-refuses (c .before .before .before .before .before .pre .0) (c .before .side-offsets-fault2 .ensures) (c .if2 .taken)
