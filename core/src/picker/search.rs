@@ -1,0 +1,132 @@
+//! The search: every ordering of one scan and extends, depth first, the cheapest step first, cut where it takes longer than the best
+//! so far. The cache makes a step's time depend on the order of what is covered, so sets alone are not enough.
+
+use super::query::{Operator, Set};
+use super::samples::Samples;
+use super::stage::Stage;
+
+/// Sets that are gone on from, at most.
+const MOST_NODES: usize = 20_000;
+
+/// A plan of the search: what it takes, and its operators.
+#[derive(Clone, Debug)]
+pub struct Found {
+    pub stage: Stage,
+    pub plan: Vec<Operator>,
+}
+
+/// A search under way.
+pub struct Search<'s, 'a> {
+    pub samples: &'s mut Samples<'a>,
+    /// Sampling stops at so much effort, or at this share of the best plan's time.
+    effort: f64,
+    effort_share: f64,
+    /// Plans of up to so many times the best time are kept.
+    slack: f64,
+    pub best: f64,
+    pub found: Vec<Found>,
+    /// For each set the fastest stage that covers it.
+    pub stages: Vec<Option<Found>>,
+    plan: Vec<Operator>,
+    nodes: usize,
+}
+
+impl<'s, 'a> Search<'s, 'a> {
+    pub fn new(samples: &'s mut Samples<'a>, effort: f64, effort_share: f64) -> Search<'s, 'a> {
+        let sets = 1 << samples.query.vertices();
+        Search {
+            samples,
+            effort,
+            effort_share,
+            slack: 1.0,
+            best: f64::MAX,
+            found: Vec::new(),
+            stages: vec![None; sets],
+            plan: Vec::with_capacity(8),
+            nodes: 0,
+        }
+    }
+
+    /// All orderings.
+    pub fn orderings(&mut self) {
+        let mut scans: Vec<(Stage, usize)> =
+            (0..self.samples.query.edges.len()).map(|i| (self.samples.scanned(i), i)).collect();
+        scans.sort_by(|a, b| a.0.time.total_cmp(&b.0.time).then(a.1.cmp(&b.1)));
+        for (stage, i) in scans {
+            if self.too_long(stage.time) {
+                break;
+            }
+            self.go_on(stage, Operator::Scan(i));
+        }
+    }
+
+    /// The orderings again, this time all that take at most so many times the best time.
+    pub fn orderings_within(&mut self, slack: f64) {
+        self.slack = slack;
+        self.nodes = 0;
+        self.found.clear();
+        self.orderings();
+        let limit = self.slack * self.best;
+        self.found.retain(|found| found.stage.time <= limit);
+    }
+
+    /// Goes on from a stage of a plan that ends with a join, to plans faster than a time.
+    pub fn from_stage(&mut self, stage: Stage, plan: &[Operator], below: f64) {
+        self.best = self.best.min(below);
+        self.plan = plan.to_vec();
+        self.deeper(stage);
+        self.plan.clear();
+    }
+
+    fn too_long(&self, time: f64) -> bool {
+        if self.slack > 1.0 { time > self.slack * self.best } else { time >= self.best }
+    }
+
+    fn go_on(&mut self, stage: Stage, operator: Operator) {
+        self.plan.push(operator);
+        self.deeper(stage);
+        self.plan.pop();
+    }
+
+    /// Notes a stage where none that covers its set is faster.
+    fn note(&mut self, stage: Stage) {
+        let known = &mut self.stages[stage.set as usize];
+        if known.as_ref().map_or(true, |known| stage.time < known.stage.time) {
+            *known = Some(Found { stage, plan: self.plan.clone() });
+        }
+    }
+
+    fn deeper(&mut self, stage: Stage) {
+        let query = self.samples.query;
+        if stage.set == query.all() {
+            self.best = self.best.min(stage.time);
+            if self.slack == 1.0 {
+                self.found.clear();
+            }
+            self.found.push(Found { stage, plan: self.plan.clone() });
+            return;
+        }
+        self.note(stage);
+        self.nodes += 1;
+        let spent = self.samples.effort > self.effort.max(self.effort_share * self.best);
+        if self.nodes > MOST_NODES || (spent && !self.found.is_empty()) {
+            return;
+        }
+        self.samples.extend_all(stage.set);
+        let mut steps: Vec<(Stage, usize)> =
+            query.next(stage.set).map(|v| (self.samples.extended_by(&stage, v), v)).collect();
+        steps.sort_by(|a, b| a.0.time.total_cmp(&b.0.time).then(a.1.cmp(&b.1)));
+        for (next, v) in steps {
+            if self.too_long(next.time) {
+                break;
+            }
+            self.go_on(next, Operator::Extend(v));
+        }
+    }
+
+    /// The sets that were covered below a time, ascending.
+    pub fn covered(&self, below: f64) -> Vec<Set> {
+        let fast = |set: &Set| self.stages[*set as usize].as_ref().map_or(false, |found| found.stage.time < below);
+        (0..self.stages.len() as Set).filter(fast).collect()
+    }
+}
