@@ -68,12 +68,19 @@ impl Engine {
         Engine { store, scratch: Vec::new(), list: Vec::new(), most }
     }
 
-    /// Runs a plan until its buffers are long enough; nothing where they would be longer than is allowed.
-    pub fn fit(&mut self, query: &[u8], edges: &[u32], plan: &[Operator]) -> Option<Fitted> {
+    /// Runs a plan until its buffers are long enough, beginning with so many words of scratch and list; nothing where they would be
+    /// longer than is allowed. `edges` are the ends of the query's edges, as sets.
+    pub fn fit(
+        &mut self,
+        query: &[u8],
+        edges: &[u32],
+        plan: &[Operator],
+        mut scratch: usize,
+        mut list: usize,
+    ) -> Option<Fitted> {
         let bytes = pack(plan);
         assert_eq!(check_plan(query, &bytes), Ok(plan.len()), "the plan is accepted");
         let mut records = vec![Record::default(); plan.len()];
-        let (mut scratch, mut list) = (4_096, 4_096);
         let answer = loop {
             self.grow(scratch, list);
             let (lent, rows) = (&mut self.scratch[..scratch], &mut self.list[..list]);

@@ -27,6 +27,7 @@ pub fn work(store: &Store, query: &Query, plan: &[Operator], most: usize) -> Opt
             Operator::Join => return None,
         }
         work.put(Part::Output, rows.len() as f64);
+        work.put(Part::Word, rows.len() as f64 * f64::from(set.count_ones()));
         counts.push(rows.len());
     }
     work.put(Part::List, (rows.len() * query.vertices()) as f64);
@@ -59,6 +60,7 @@ fn extended(
         let same = |last: &Row| looking.descriptors.iter().all(|d| last[d.vertex] == row[d.vertex]);
         if before.map_or(false, same) {
             work.put(Part::Cached, 1.0);
+            work.put(Part::Kept, kept.len() as f64);
         } else {
             kept.clear();
             looking.look(store, row, usize::MAX, &mut random, &mut kept, work);

@@ -6,11 +6,12 @@ use picker_bench::picker::query::{Operator, Query};
 use picker_bench::picker::store::Store as Parts;
 use picker_bench::picker::time::{Part, Work, ALL, PARTS};
 use picker_bench::random::Random;
+use crate::record::Check;
 use trace::Store;
 
 /// Rows of an operator at most, and nanoseconds besides the store check at least: shorter runs are noise.
 const MOST_ROWS: usize = 400_000;
-const LEAST_TIME: f64 = 3e5;
+const LEAST_TIME: f64 = 6e5;
 /// Plans of a pattern at most.
 const PLANS: usize = 5;
 
@@ -66,7 +67,7 @@ fn runs_of(name: &str, file: &[u8], random: &mut Random, count: usize, runs: &mu
     let words = store.words().to_vec();
     let parts = Parts::of(&words).expect("a store");
     let mut engine = Engine::new(store, 1 << 24);
-    let check = crate::measure::check_time(&mut engine);
+    let check = Check::new(&mut engine);
     let (mut patterns, before) = (0, runs.len());
     for _ in 0..20 * count {
         let n = 3 + random.below(3);
@@ -89,15 +90,21 @@ fn runs_of(name: &str, file: &[u8], random: &mut Random, count: usize, runs: &mu
             };
             let join = if sides.len() == 2 { &[Operator::Join][..] } else { &[] };
             let plan = [&sides.concat()[..], join].concat();
-            let fitted = match engine.fit(&file, &edges, &plan) {
+            let fitted = match engine.fit(&file, &edges, &plan, 4_096, 4_096) {
                 Some(fitted) => fitted,
                 None => continue,
             };
             if sides.len() == 2 {
                 work.put(Part::Joined, fitted.rows as f64);
+                work.put(Part::Word, (fitted.rows * query.vertices()) as f64);
                 work.put(Part::List, (fitted.rows * query.vertices()) as f64);
             }
-            let time = (0..5).map(|_| engine.time(&file, &fitted)).fold(f64::MAX, f64::min) - check;
+            let (mut time, mut checked) = (f64::MAX, f64::MAX);
+            for _ in 0..5 {
+                time = time.min(engine.time(&file, &fitted));
+                checked = checked.min(check.time(&mut engine));
+            }
+            let time = time - checked;
             if time >= LEAST_TIME {
                 runs.push(Run { work, time });
                 used = true;
@@ -161,7 +168,7 @@ pub fn run(names: &[&str], seed: u64, count: usize, graph: fn(&str) -> Vec<u8>) 
     println!(
         "/// What each part takes, in nanoseconds, in the order of `ALL`. `bench/picker/run fit` measures the engine and writes this file.\n\
          const NANOSECONDS: [f64; PARTS] = [\n    {},\n    {},\n];",
-        numbers[..8].join(", "),
-        numbers[8..].join(", ")
+        numbers[..PARTS / 2].join(", "),
+        numbers[PARTS / 2..].join(", ")
     );
 }

@@ -1,11 +1,11 @@
 //! Measures picked plans beside drawn ones and the best, and fits the picker's time model. `bench/picker/run` says how to call it.
 mod fit;
 mod measure;
+mod record;
 mod report;
 
 use picker_bench::graphs::Shape;
 use picker_bench::random::Random;
-use trace::Store;
 
 /// The graph of a name: a synthetic one, or a packed file.
 fn graph(name: &str) -> Vec<u8> {
@@ -24,18 +24,27 @@ fn main() {
     let words: Vec<&str> = arguments.iter().map(String::as_str).collect();
     let number = |text: &str| text.parse::<u64>().unwrap_or_else(|_| panic!("{text} is no number"));
     match words[..] {
-        ["measure", name, seed, count, least, most, ref table @ ..] => {
-            let store = Store::load(&graph(name)).expect("an accepted graph");
+        ["record", name, seed, count, least, most, path] => {
+            let mut bench = record::Bench::new(&graph(name));
             let sizes = number(least) as usize..=number(most) as usize;
-            let found = measure::patterns(store, &mut Random::new(number(seed)), number(count) as usize, sizes);
+            let all = bench.record(&mut Random::new(number(seed)), number(count) as usize, sizes);
+            std::fs::write(path, record::to_text(&bench, &all)).expect("the record is written");
+        }
+        ["judge", name, path, ref table @ ..] => {
+            let mut bench = record::Bench::new(&graph(name));
+            let statistics_time = bench.statistics_time;
+            let text = std::fs::read_to_string(path).unwrap_or_else(|error| panic!("{path}: {error}"));
+            let all = record::from_text(&mut bench, &text);
+            bench.statistics_time = statistics_time;
+            let found: Vec<_> = all.iter().filter_map(|one| measure::measured(&mut bench, one)).collect();
             if let [table] = table {
                 std::fs::write(table, report::table(&found)).expect("the table is written");
             }
-            print!("{}", report::percentiles(name, &found));
+            print!("{}", report::percentiles(name, &bench, &found));
         }
         ["fit", seed, count, ref names @ ..] => fit::run(names, number(seed), number(count) as usize, graph),
         _ => {
-            eprintln!("measure GRAPH SEED PATTERNS LEAST MOST [TABLE] | fit SEED PATTERNS GRAPH ..");
+            eprintln!("record GRAPH SEED PATTERNS LEAST MOST FILE | judge GRAPH FILE [TABLE] | fit SEED PATTERNS GRAPH ..");
             std::process::exit(2);
         }
     }

@@ -1,10 +1,11 @@
 //! What was measured, as a table of patterns and as percentiles.
 use crate::measure::Measured;
+use crate::record::Bench;
 use picker_bench::picker::query::{Operator, Query};
 use std::fmt::Write;
 
 /// Below so many nanoseconds besides the store check, a ratio without that check is noise.
-const SHORT: f64 = 5e5;
+const SHORT: f64 = 1e6;
 
 pub fn plan_text(plan: &[Operator]) -> String {
     let step = |operator: &Operator| match *operator {
@@ -27,30 +28,29 @@ pub fn query_text(query: &Query) -> String {
 }
 
 /// A time without the store check.
-fn bare(measured: &Measured, time: f64) -> f64 {
-    (time - measured.check_time).max(1.0)
+fn bare(m: &Measured, time: f64) -> f64 {
+    (time - m.recorded.check_time).max(1.0)
 }
 
 pub fn table(found: &[Measured]) -> String {
-    let mut out = String::from("ratio\tbare\tdrawn\tbest ms\tpicked ms\testimated ms\tpick us\trows\tpicked\tbest\tquery\n");
+    let mut out = String::from("ratio\tbare\tdrawn\tbest ms\tthought\tpicked ms\tthought\tpick us\tpicked\tbest\trows\tquery\n");
     for m in found {
-        let best = m.best_time.unwrap_or(f64::NAN);
-        let (ratio, naked) = (m.picked_time / best, bare(m, m.picked_time) / bare(m, best));
-        let drawn = m.drawn_time.map_or(f64::INFINITY, |drawn| drawn / best);
-        let plan: Vec<Operator> = m.picked.operators.iter().map(|estimate| estimate.operator).collect();
-        let rows: Vec<String> =
-            m.rows.iter().zip(&m.picked.operators).map(|(rows, e)| format!("{rows}/{:.0}", e.rows)).collect();
+        let (ratio, naked) = (m.picked_time / m.best_time, bare(m, m.picked_time) / bare(m, m.best_time));
+        let drawn = m.drawn_time.map_or(f64::INFINITY, |drawn| drawn / m.best_time);
+        let rows: Vec<String> = m.picked.operators.iter().map(|e| format!("{:.0}", e.rows)).collect();
         let _ = writeln!(
             out,
-            "{ratio:.3}\t{naked:.3}\t{drawn:.3}\t{:.3}\t{:.3}\t{:.3}\t{:.0}\t{}\t{}\t{}\t{}",
-            bare(m, best) / 1e6,
+            "{ratio:.3}\t{naked:.3}\t{drawn:.3}\t{:.3}\t{:.3}\t{:.3}\t{:.3}\t{:.0}\t{}\t{}\t{}/{}\t{}",
+            bare(m, m.best_time) / 1e6,
+            m.best_thought / 1e6,
             bare(m, m.picked_time) / 1e6,
             m.picked.time / 1e6,
             m.pick_time / 1e3,
-            rows.join(" "),
-            plan_text(&plan),
+            plan_text(&m.plan),
             plan_text(&m.best),
-            query_text(&m.query),
+            rows.join(" "),
+            m.recorded.rows,
+            query_text(m.query()),
         );
     }
     out
@@ -71,35 +71,35 @@ fn spread(mut numbers: Vec<f64>) -> String {
     format!("| {} | {}", cells.join(" | "), numbers.len())
 }
 
-pub fn percentiles(name: &str, found: &[Measured]) -> String {
+pub fn percentiles(name: &str, bench: &Bench, found: &[Measured]) -> String {
     let mut out = format!("\n### {name}\n\n| | 50 % | 90 % | 95 % | 99 % | most | patterns |\n|---|--:|--:|--:|--:|--:|--:|\n");
     let mut row = |title: &str, numbers: Vec<f64>| {
         let _ = writeln!(out, "| {title} {} |", spread(numbers));
     };
-    let whole: Vec<&Measured> = found.iter().filter(|m| m.best_time.is_some()).collect();
-    let best = |m: &Measured| m.best_time.unwrap_or(f64::NAN);
-    let long: Vec<&Measured> = whole.iter().copied().filter(|m| bare(m, best(m)) >= SHORT).collect();
     let drawn = |m: &Measured| m.drawn_time.unwrap_or(f64::INFINITY);
-    row("picked / best", whole.iter().map(|m| m.picked_time / best(m)).collect());
-    row("drawn / best", whole.iter().map(|m| drawn(m) / best(m)).collect());
-    row("picked / drawn", whole.iter().map(|m| m.picked_time / drawn(m)).collect());
-    row("picked / best, without store check", long.iter().map(|m| bare(m, m.picked_time) / bare(m, best(m))).collect());
-    row("drawn / best, without store check", long.iter().map(|m| bare(m, drawn(m)) / bare(m, best(m))).collect());
+    let long: Vec<&Measured> = found.iter().filter(|m| bare(m, m.best_time) >= SHORT).collect();
+    row("picked / best", found.iter().map(|m| m.picked_time / m.best_time).collect());
+    row("drawn / best", found.iter().map(|m| drawn(m) / m.best_time).collect());
+    row("picked / drawn", found.iter().map(|m| m.picked_time / drawn(m)).collect());
+    row("picked / best, without store check", long.iter().map(|m| bare(m, m.picked_time) / bare(m, m.best_time)).collect());
+    row("drawn / best, without store check", long.iter().map(|m| bare(m, drawn(m)) / bare(m, m.best_time)).collect());
     row("picked / drawn, without store check", long.iter().map(|m| bare(m, m.picked_time) / bare(m, drawn(m))).collect());
     row("picking, µs", found.iter().map(|m| m.pick_time / 1e3).collect());
     row("picking / bar", found.iter().map(|m| m.pick_time / (0.02 * m.picked_time).max(2e6)).collect());
     row("estimated / true time", long.iter().map(|m| m.picked.time / bare(m, m.picked_time)).collect());
     let rows = |m: &Measured| {
-        let last = (m.picked.operators.last().map_or(0.0, |e| e.rows), m.rows.last().map_or(0.0, |&rows| rows as f64));
-        (last.0 + 1.0) / (last.1 + 1.0)
+        let estimated = m.picked.operators.last().map_or(0.0, |estimate| estimate.rows);
+        (estimated + 1.0) / (m.recorded.rows as f64 + 1.0)
     };
     row("estimated / true rows", found.iter().map(rows).collect());
     row("the larger of that and its inverse", found.iter().map(|m| rows(m).max(1.0 / rows(m))).collect());
-    let total = |time: &dyn Fn(&Measured) -> f64| whole.iter().map(|m| bare(m, time(m))).filter(|t| t.is_finite()).sum::<f64>();
-    let (mine, its, least) = (total(&|m| m.picked_time), total(&drawn), total(&best));
-    let joins = found.iter().filter(|m| m.picked.operators.iter().any(|e| e.operator == Operator::Join)).count();
-    let skipped: usize = found.iter().map(|m| m.skipped).sum();
-    let run: usize = found.iter().map(|m| m.orderings).sum();
+    let total = |time: &dyn Fn(&Measured) -> f64| {
+        found.iter().filter(|m| m.drawn_time.is_some()).map(|m| bare(m, time(m))).sum::<f64>()
+    };
+    let (mine, its, least) = (total(&|m| m.picked_time), total(&drawn), total(&|m| m.best_time));
+    let joins = found.iter().filter(|m| m.plan.contains(&Operator::Join)).count();
+    let skipped: usize = found.iter().map(|m| m.recorded.skipped).sum();
+    let run: usize = found.iter().map(|m| m.recorded.timed.len()).sum();
     let missing = found.iter().filter(|m| m.drawn_time.is_none()).count();
     let _ = writeln!(
         out,
@@ -108,9 +108,7 @@ pub fn percentiles(name: &str, found: &[Measured]) -> String {
         mine / least,
         its / least
     );
-    if let Some(m) = found.first() {
-        let (statistics, check) = (m.statistics_time / 1e6, m.check_time / 1e6);
-        let _ = writeln!(out, "Statistics {statistics:.2} ms, store check {check:.2} ms.");
-    }
+    let (statistics, check) = (bench.statistics_time / 1e6, bench.check_time / 1e6);
+    let _ = writeln!(out, "Statistics {statistics:.2} ms, store check {check:.2} ms.");
     out
 }

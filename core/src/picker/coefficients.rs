@@ -1,3 +1,5 @@
 /// What each part takes, in nanoseconds, in the order of `ALL`. `bench/picker/run fit` measures the engine and writes this file.
-const NANOSECONDS: [f64; PARTS] =
-    [0.3, 12.0, 10.5, 0.35, 2.4, 5.2, 7.7, 250.0, 1.5, 3.2, 21.0, 0.0, 25.0, 35.0, 10.0, 0.3];
+const NANOSECONDS: [f64; PARTS] = [
+    0.924, 0.000, 20.637, 0.640, 3.580, 9.673, 4.066, 48.210, 5.760,
+    4.678, 20.201, 1.5, 3.0, 0.3, 4.153, 11.356, 9.895, 0.525,
+];

@@ -12,6 +12,8 @@ const MAX_DESCRIPTORS: usize = 24;
 
 /// A single portion of several labels with so many entries is put in order without bit sets.
 const FEW: usize = 8;
+/// An entry of it takes as long as so many.
+const IN_ORDER: f64 = 3.0;
 
 /// An extend of rows over a set by a vertex.
 pub struct Extending<'q> {
@@ -98,6 +100,13 @@ impl<'q> Extending<'q> {
         Looked { scale, set }
     }
 
+    /// The work of finding a row's new vertices, without those that come out.
+    pub fn work_of(&self, store: &Store, row: &Row) -> Work {
+        let mut work = Work::default();
+        self.put_work(&self.portions(store, row), 0.0, &mut work);
+        work
+    }
+
     fn portions<'s>(&self, store: &Store<'s>, row: &Row) -> Portions<'s> {
         let mut all: [&[u32]; MAX_DESCRIPTORS] = [&[]; MAX_DESCRIPTORS];
         let (mut one, mut several) = (0, false);
@@ -139,7 +148,8 @@ impl<'q> Extending<'q> {
         if portions.several && (count > 1 || len > FEW) {
             self.put_sets(portions, work);
         } else if count == 1 {
-            work.put(Part::Entry, len as f64);
+            let each = if portions.several { IN_ORDER } else { 1.0 };
+            work.put(Part::Entry, each * len as f64);
         } else {
             work.put(Part::Walk, len as f64);
             if len > 0 {

@@ -29,24 +29,25 @@ pub struct Sample {
 }
 
 impl Sample {
-    /// Takes in what another way to the same set gave: the mean of the estimates by what they rest on, the sample that rests on more.
-    fn merge(&mut self, other: Sample) {
+    /// Takes in what another way to the same set gave: the mean of the estimates by what they rest on, and its sample where that rests
+    /// on twice as much. Answers whether the sample was taken.
+    fn merge(&mut self, other: Sample) -> bool {
         if self.exact {
-            return;
+            return false;
         }
-        if !other.exact {
-            let (mine, its) = (self.weight.max(0.01), other.support.max(0.01));
-            self.rows = (self.rows * mine + other.rows * its) / (mine + its);
-            self.weight = mine + its;
-        }
-        if other.exact || self.support < other.support {
-            let (rows, weight) = (self.rows, self.weight);
+        if other.exact {
             *self = other;
-            if !self.exact {
-                self.rows = rows;
-                self.weight = weight;
-            }
+            return true;
         }
+        let (mine, its) = (self.weight.max(0.01), other.support.max(0.01));
+        let rows = (self.rows * mine + other.rows * its) / (mine + its);
+        let better = other.support > 2.0 * self.support;
+        if better {
+            *self = other;
+        }
+        self.rows = rows;
+        self.weight = mine + its;
+        better
     }
 }
 
@@ -59,7 +60,8 @@ pub struct Extension {
     pub time: f64,
     /// The share of rows that have a new one.
     pub hit: f64,
-    /// The longest set of new vertices that was seen.
+    /// The set of new vertices before those are struck that the row has or its pairs forbid: its length, and the longest seen.
+    pub set: f64,
     pub longest: f64,
     /// Time and hits as means over the different vertices of an end, where the set is two ends: of its lower and its higher vertex.
     pub by_end: [(f64, f64); 2],
@@ -140,8 +142,14 @@ impl<'a> Samples<'a> {
         let sample = self.samples[set as usize].take().unwrap_or_default();
         let (extension, larger) = self.extended(&sample, set, v, MOST_ENTRIES);
         self.samples[set as usize] = Some(sample);
-        match &mut self.samples[(set | 1 << v) as usize] {
-            Some(known) => known.merge(larger),
+        let whole = (set | 1 << v) as usize;
+        match &mut self.samples[whole] {
+            Some(known) => {
+                if known.merge(larger) {
+                    // What the poorer sample said of extends is made anew where it is asked for again.
+                    self.index[whole * MAX_VERTICES..][..MAX_VERTICES].fill(NO_EXTENSION);
+                }
+            }
             none => *none = Some(larger),
         }
         self.index[set as usize * MAX_VERTICES + v] = self.extensions.len() as u16;
@@ -159,7 +167,7 @@ impl<'a> Samples<'a> {
         let extending = Extending::new(self.query, set, v);
         let mut ends = Ends::new(self.query, set);
         let (mut found, mut parts) = (Vec::with_capacity(4 * self.size), Vec::with_capacity(operand.sample.len()));
-        let (mut time, mut total, mut hits, mut longest) = (0.0, 0.0, 0.0, 0.0f64);
+        let (mut time, mut total, mut hits, mut sets, mut longest) = (0.0, 0.0, 0.0, 0.0, 0.0f64);
         let mut all = true;
         for row in &operand.sample {
             let (from, mut work) = (found.len(), Work::default());
@@ -168,6 +176,7 @@ impl<'a> Samples<'a> {
             total += looked.scale * (found.len() - from) as f64;
             parts.push((from, found.len(), total));
             all &= looked.scale == 1.0;
+            sets += looked.set;
             longest = longest.max(looked.set);
             hits += hit;
             let row_time = work.time();
@@ -180,7 +189,7 @@ impl<'a> Samples<'a> {
         let rows = if found.is_empty() && !(operand.whole && all) { UNSEEN / count } else { total / count };
         let hit = if hits == 0.0 { rows.min(1.0) } else { hits / count };
         let time = time / count;
-        let extension = Extension { rows, time, hit, longest, by_end: ends.means(time, hit) };
+        let extension = Extension { rows, time, hit, set: sets / count, longest, by_end: ends.means(time, hit) };
         let exact = operand.whole && all;
         let whole = exact && found.len() <= self.size;
         let support = operand.support.min(hits);
@@ -249,13 +258,13 @@ impl<'a> Samples<'a> {
         work.put(if lengths.len() == 1 { Part::Entry } else { Part::Walk }, lengths[one]);
         work.put(Part::Found, rows);
         let (time, hit) = (work.time(), rows.min(1.0));
-        Extension { rows, time, hit, longest: rows, by_end: [(time, hit); 2] }
+        Extension { rows, time, hit, set: rows, longest: rows, by_end: [(time, hit); 2] }
     }
 }
 
 impl Extension {
     /// Of a set that has no row.
     fn of_nothing() -> Extension {
-        Extension { rows: 0.0, time: 0.0, hit: 0.0, longest: 0.0, by_end: [(0.0, 0.0); 2] }
+        Extension { rows: 0.0, time: 0.0, hit: 0.0, set: 0.0, longest: 0.0, by_end: [(0.0, 0.0); 2] }
     }
 }

@@ -1,6 +1,6 @@
 //! Scans: the rows of a query edge's ends, and what finding them takes.
 
-use super::extension::{is_scan_row, Row};
+use super::extension::{is_scan_row, Extending, Row};
 use super::query::{Edge, MAX_VERTICES};
 use super::samples::{Sample, Samples, UNSEEN};
 use super::store::{Direction, SPAN};
@@ -74,28 +74,35 @@ impl Samples<'_> {
         let exact = pooled && total <= want;
         let gap = if exact { 1.0 } else { (total / want).max(1.0) };
         let mut at = if exact { 0.0 } else { gap * self.random.unit() };
-        let (mut rows, mut begin, mut tried) = (Vec::new(), 0.0, 0.0);
+        let (mut rows, mut begin, mut tried, mut support) = (Vec::new(), 0.0, 0.0, 0.0);
         for (label, known) in statistics.numbered_edge_labels(edge.label) {
             statistics.triples(known, source, target, &mut |triple| {
                 let count = f64::from(triple.count);
+                let mut last: Option<(u32, Option<Row>)> = None;
                 while at < begin + count {
-                    let i = ((at - begin) / count * f64::from(triple.pooled)) as u32;
-                    let ends = known.pool[(triple.pool + i.min(triple.pooled - 1)) as usize];
-                    let mut row = [SPAN - 1; MAX_VERTICES];
-                    row[edge.from] = ends / SPAN;
-                    row[edge.to] = ends % SPAN;
+                    let i = (((at - begin) / count * f64::from(triple.pooled)) as u32).min(triple.pooled - 1);
+                    let row = match last {
+                        Some((before, row)) if before == i => row,
+                        _ => {
+                            let ends = known.pool[(triple.pool + i) as usize];
+                            let mut row = [SPAN - 1; MAX_VERTICES];
+                            row[edge.from] = ends / SPAN;
+                            row[edge.to] = ends % SPAN;
+                            let row = Some(row).filter(|row| is_scan_row(self.query, &self.store, edge, row, label));
+                            self.effort += 60.0;
+                            support += if row.is_some() { 1.0 } else { 0.0 };
+                            row
+                        }
+                    };
+                    last = Some((i, row));
+                    rows.extend(row);
                     tried += 1.0;
-                    if is_scan_row(self.query, &self.store, edge, &row, label) {
-                        rows.push(row);
-                    }
                     at += gap;
                 }
                 begin += count;
             });
         }
-        self.effort += 60.0 * tried;
-        let support = rows.len() as f64;
-        let seen = if rows.is_empty() && !exact { UNSEEN } else { support };
+        let seen = if rows.is_empty() && !exact { UNSEEN } else { rows.len() as f64 };
         let estimate = if tried == 0.0 { 0.0 } else { total * seen / tried };
         let whole = exact && rows.len() <= self.size;
         Sample { rows: estimate, sample: thinned(rows, self.size), exact, whole, support, weight: support }
@@ -104,31 +111,43 @@ impl Samples<'_> {
     /// The work of a scan: every vertex is tested, and from each source that fits the portions of all edges between the ends are
     /// intersected.
     fn scan_work(&self, edge: &Edge) -> Work {
-        let filter = &self.query.filters[edge.from];
+        let label = self.query.filters[edge.from].label;
         let fitting = self.fitting(edge.from);
-        let share = fitting / self.statistics.labelled(filter.label).max(1.0);
-        let between = self.query.edges.iter().filter(|other| other.ends() == edge.ends());
-        let (mut count, mut least, mut any) = (0.0, f64::MAX, false);
-        for other in between {
-            let direction = if other.from == edge.from { Direction::Forward } else { Direction::Backward };
-            least = self.statistics.edges_at(direction, other.label, filter.label).min(least);
-            any |= other.label == 0;
-            count += 1.0;
-        }
+        let share = fitting / self.statistics.labelled(label).max(1.0);
+        let entries = share * self.statistics.edges_at(Direction::Forward, edge.label, label);
+        let extending = Extending::new(self.query, 1 << edge.from, edge.to);
         let mut work = Work::default();
+        if edge.label != 0 && extending.descriptors.len() == 1 {
+            work.put(Part::Entry, entries);
+        } else {
+            self.put_source_work(edge, &extending, entries, &mut work);
+        }
         work.put(Part::Vertex, self.store.vertices() as f64);
         work.put(Part::Row, fitting);
-        work.put(Part::Descriptor, count * fitting);
-        if any {
-            work.put(Part::Mark, share * least);
-            work.put(Part::Sets, 0.5 * fitting.min(share * least));
-        } else {
-            work.put(if count == 1.0 { Part::Entry } else { Part::Walk }, share * least);
-        }
+        work.put(Part::Descriptor, fitting * extending.descriptors.len() as f64);
         let rows = self.rows(edge.ends());
         work.put(Part::Found, rows);
         work.put(Part::Output, rows);
+        work.put(Part::Word, 2.0 * rows);
         work
+    }
+
+    /// The work at the sources of so many entries, but for what is counted for each source that fits: that at the sources of the
+    /// sample, each counted once however many of the entries are its.
+    fn put_source_work(&self, edge: &Edge, extending: &Extending, entries: f64, work: &mut Work) {
+        let sample = match &self.samples[edge.ends() as usize] {
+            Some(sample) if !sample.sample.is_empty() => sample,
+            _ => return work.put(Part::Walk, entries),
+        };
+        let each = entries / sample.sample.len() as f64;
+        let before = *work;
+        for row in &sample.sample {
+            let degree = self.store.portion(Direction::Forward, row[edge.from], edge.label).len() as f64;
+            work.add(&extending.work_of(&self.store, row), each / degree.max(1.0));
+        }
+        for part in [Part::Row, Part::Descriptor] {
+            work.0[part as usize] = before.0[part as usize];
+        }
     }
 
     /// How many sources a scan's rows have: the mean of one over the rows of the same source.

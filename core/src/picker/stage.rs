@@ -53,8 +53,12 @@ impl Samples<'_> {
             Some((each, _)) if distinct < rows => (distinct, each),
             _ => (rows, extension.time),
         };
-        let took =
-            computed * each + time_of(Part::Cached, rows - computed) + time_of(Part::Output, out);
+        let cached = rows - computed;
+        let took = computed * each
+            + time_of(Part::Cached, cached)
+            + time_of(Part::Kept, cached * extension.set)
+            + time_of(Part::Output, out)
+            + time_of(Part::Word, out * (stage.width() + 1.0));
         let own = |i: usize| match used & !prefixes.all()[i].set {
             0 => self.mean_at(prefixes, i, v).map(|(_, hit)| hit),
             _ => None,
@@ -81,7 +85,10 @@ impl Samples<'_> {
     pub fn joined(&self, build: &Stage, probe: &Stage) -> Stage {
         let set = build.set | probe.set;
         let (built, probed, out) = (self.rows(build.set), self.rows(probe.set), self.rows(set));
-        let took = time_of(Part::Build, built) + time_of(Part::Probe, probed) + time_of(Part::Joined, out);
+        let took = time_of(Part::Build, built)
+            + time_of(Part::Probe, probed)
+            + time_of(Part::Joined, out)
+            + time_of(Part::Word, out * f64::from(set.count_ones()));
         let mut prefixes = probe.prefixes.surviving(probed, (out / probed.max(1e-9)).min(1.0), |_| None);
         prefixes.push(Prefix { set, distinct: out });
         let words = built * build.width();

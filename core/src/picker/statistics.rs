@@ -8,7 +8,7 @@ const EDGE_LABELS: usize = 256;
 const VERTEX_LABELS: usize = 65_536;
 
 /// Sample edges of a triple at least, where it has as many edges.
-const POOL_FLOOR: u64 = 8;
+const POOL_FLOOR: u64 = 32;
 /// Sample edges of an edge label about, shared among its triples by their counts.
 const POOL_SHARE: u64 = 2_048;
 /// The classes of an edge label are the most of these whose square its edges reach: few edges need no fine table.

@@ -25,8 +25,11 @@ pub enum Part {
     Found,
     /// A row whose new vertices are those of the row before.
     Cached,
-    /// A row of an operator's result.
+    /// A vertex of the set kept for such a row, which is tested anew.
+    Kept,
+    /// A row of an operator's result, and a word of it.
     Output,
+    Word,
     /// A build row of a join.
     Build,
     /// A probe row.
@@ -38,7 +41,7 @@ pub enum Part {
 }
 
 /// How many parts there are.
-pub const PARTS: usize = 16;
+pub const PARTS: usize = 18;
 
 /// Every part, in the order of a `Work`'s numbers.
 pub const ALL: [Part; PARTS] = [
@@ -53,7 +56,9 @@ pub const ALL: [Part; PARTS] = [
     Part::Mark,
     Part::Found,
     Part::Cached,
+    Part::Kept,
     Part::Output,
+    Part::Word,
     Part::Build,
     Part::Probe,
     Part::Joined,
