@@ -4,6 +4,7 @@ pub mod graphs;
 #[path = "../../../core/src/picker/mod.rs"]
 pub mod picker;
 
+pub mod digest;
 pub mod engine;
 pub mod exact;
 pub mod patterns;

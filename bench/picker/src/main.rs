@@ -42,6 +42,7 @@ fn main() {
             }
             print!("{}", report::percentiles(name, &bench, &found));
         }
+        ["digest", picks] => println!("{:x}", picker_bench::digest::digest(number(picks) as usize)),
         ["fit", seed, count, ref names @ ..] => fit::run(names, number(seed), number(count) as usize, graph),
         _ => {
             eprintln!("record GRAPH SEED PATTERNS LEAST MOST FILE | judge GRAPH FILE [TABLE] | fit SEED PATTERNS GRAPH ..");

@@ -43,13 +43,17 @@ pub const MAX_WORDS: u64 = 1 << 30;
 /// Sample rows to begin with, and how many at most.
 const FIRST_SIZE: usize = 32;
 const MOST_SIZE: usize = 2_048;
-/// A sample is made four times as large while that costs less than this share of the plan's time,
-const EFFORT_SHARE: f64 = 0.02;
-/// or up to so many rows, where a part of the plan has no sample row at all.
+/// A sample is made four times as large where a part of the plan has no sample row at all, up to so many rows,
 const UNSEEN_SIZE: usize = 512;
-/// Nanoseconds that the first search may take in any case, and that a search takes besides what it reads.
+/// or where that takes no longer than this share of the plan's time, or than these nanoseconds and a larger share.
+const EFFORT_SHARE: f64 = 0.02;
+const SHORT_EFFORT: f64 = 1_000_000.0;
+const SHORT_SHARE: f64 = 0.05;
+/// Nanoseconds that may always be taken for that, that the first search may take in any case, and that a search takes besides what it
+/// reads.
+const LEAST_EFFORT: f64 = 80_000.0;
 const FREE_EFFORT: f64 = 300_000.0;
-const BASE_EFFORT: f64 = 20_000.0;
+const BASE_EFFORT: f64 = 5_000.0;
 /// Of plans within a tenth of the best time, the one with the least need is taken, where needs below this many words count alike.
 const NEED_SLACK: f64 = 1.1;
 const NEED_FLOOR: f64 = 65_536.0;
@@ -92,7 +96,7 @@ pub fn pick(words: &[u32], statistics: &Statistics, query: &[u8], lent: u64) -> 
         let mut search = Search::new(&mut samples, effort, EFFORT_SHARE);
         search.orderings();
         let best = search.found.pop()?;
-        let pays = 4.0 * (search.samples.effort + BASE_EFFORT) <= EFFORT_SHARE * best.stage.time;
+        let pays = 4.0 * (search.samples.effort + BASE_EFFORT) <= allowance(best.stage.time);
         if size < MOST_SIZE && (pays || (size < UNSEEN_SIZE && has_unseen(search.samples, &best.plan))) {
             size *= 4;
             continue;
@@ -103,6 +107,11 @@ pub fn pick(words: &[u32], statistics: &Statistics, query: &[u8], lent: u64) -> 
         let plan = joined.unwrap_or(ordering).plan;
         return Some(described(&mut samples, &plan));
     }
+}
+
+/// How long a pick may take for a plan of a time.
+fn allowance(time: f64) -> f64 {
+    (EFFORT_SHARE * time).max((SHORT_SHARE * time).min(SHORT_EFFORT)).max(LEAST_EFFORT)
 }
 
 /// The estimates of any accepted plan, for showing it beside the picked one.
