@@ -3,7 +3,7 @@ use crate::picker::extension::{Extending, Row};
 use crate::picker::numbers::Random;
 use crate::picker::query::{Operator, Query, MAX_VERTICES};
 use crate::picker::store::Store;
-use crate::picker::time::{Part, Work};
+use crate::picker::time::{is_early, Part, Work};
 
 /// The work of an ordering with the cache on, and the rows of its operators; nothing above so many rows, or for a plan with a join.
 pub fn work(store: &Store, query: &Query, plan: &[Operator], most: usize) -> Option<(Work, Vec<usize>)> {
@@ -22,6 +22,9 @@ pub fn work(store: &Store, query: &Query, plan: &[Operator], most: usize) -> Opt
             }
             Operator::Extend(v) => {
                 rows = extended(store, query, set, v, &rows, most, &mut work)?;
+                if is_early(set, v) {
+                    work.put(Part::Early, rows.len() as f64);
+                }
                 set |= 1 << v;
             }
             Operator::Join => return None,

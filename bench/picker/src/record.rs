@@ -18,6 +18,8 @@ const LONG: f64 = 4e8;
 /// Orderings are passed by that take so many times the best time by the estimate, and so many nanoseconds.
 const HOPELESS: f64 = 10.0;
 const NOT_SHORT: f64 = 1e7;
+/// Plans are run again that take at most so much longer than the best: one slow minute is not taken for a slow plan.
+const CHEAP: f64 = 5e6;
 
 /// A plan that was run, and its least time in nanoseconds.
 pub struct Timed {
@@ -149,7 +151,7 @@ impl Bench {
         for _ in 0..4 {
             recorded.check_time = recorded.check_time.min(self.check.time(&mut self.engine));
             let best = fitted.iter().map(|run| run.1).fold(f64::MAX, f64::min);
-            for run in fitted.iter_mut().filter(|run| run.1 < 1.4 * best || run.1 < best + 5e5) {
+            for run in fitted.iter_mut().filter(|run| run.1 < 1.4 * best || run.1 < best + CHEAP) {
                 run.1 = run.1.min(self.engine.time(&recorded.file, &run.0));
             }
         }

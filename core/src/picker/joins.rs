@@ -22,6 +22,9 @@ pub fn best_join(search: &mut Search, fits: &mut dyn FnMut(&[Operator]) -> bool)
     for &build in &sets {
         for &probe in &sets {
             let limit = best.as_ref().map_or(below, |found| found.stage.time);
+            if search.is_spent() {
+                return best;
+            }
             if !joinable(search, build, probe) {
                 continue;
             }

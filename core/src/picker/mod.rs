@@ -43,15 +43,19 @@ pub const MAX_WORDS: u64 = 1 << 30;
 /// Sample rows to begin with, and how many at most.
 const FIRST_SIZE: usize = 32;
 const MOST_SIZE: usize = 2_048;
-/// A sample is made four times as large where a part of the plan has no sample row at all, up to so many rows,
-const UNSEEN_SIZE: usize = 512;
-/// or where that takes no longer than this share of the plan's time, or than these nanoseconds and a larger share.
+/// A sample is made as much larger as all sampling together may take: this share of the plan's time, or up to these nanoseconds a
+/// larger share, or these in any case;
 const EFFORT_SHARE: f64 = 0.02;
-const SHORT_EFFORT: f64 = 1_000_000.0;
-const SHORT_SHARE: f64 = 0.05;
-/// Nanoseconds that may always be taken for that, that the first search may take in any case, and that a search takes besides what it
-/// reads.
-const LEAST_EFFORT: f64 = 80_000.0;
+const SHORT_EFFORT: f64 = 1_300_000.0;
+const SHORT_SHARE: f64 = 0.1;
+const LEAST_EFFORT: f64 = 70_000.0;
+/// and where a part of the plan has no sample row at all, up to so many rows and nanoseconds.
+const UNSEEN_SIZE: usize = 512;
+const UNSEEN_EFFORT: f64 = 600_000.0;
+/// But by no less than this, and by no more at a time.
+const LEAST_GROWTH: f64 = 2.0;
+const MOST_GROWTH: f64 = 16.0;
+/// Nanoseconds that the first search may take in any case, and that a search takes besides what it reads.
 const FREE_EFFORT: f64 = 300_000.0;
 const BASE_EFFORT: f64 = 5_000.0;
 /// Of plans within a tenth of the best time, the one with the least need is taken, where needs below this many words count alike.
@@ -89,16 +93,19 @@ pub fn pick(words: &[u32], statistics: &Statistics, query: &[u8], lent: u64) -> 
     let store = Store::of(words)?;
     let query = Query::read(query)?;
     let mut bounds = Bounds::new(store, statistics, &query);
-    let mut size = FIRST_SIZE;
+    let (mut size, mut spent, mut limit) = (FIRST_SIZE, 0.0, FREE_EFFORT);
     loop {
         let mut samples = Samples::new(store, statistics, &query, size);
-        let effort = FREE_EFFORT * (size / FIRST_SIZE) as f64;
-        let mut search = Search::new(&mut samples, effort, EFFORT_SHARE);
-        search.orderings();
-        let best = search.found.pop()?;
-        let pays = 4.0 * (search.samples.effort + BASE_EFFORT) <= allowance(best.stage.time);
-        if size < MOST_SIZE && (pays || (size < UNSEEN_SIZE && has_unseen(search.samples, &best.plan))) {
-            size *= 4;
+        let mut search = Search::new(&mut samples, limit);
+        let best = search.best_ordering()?;
+        let effort = search.samples.effort + BASE_EFFORT;
+        spent += effort;
+        let unseen = size < UNSEEN_SIZE && has_unseen(search.samples, &best.plan);
+        let allowed = allowance(best.stage.time).max(if unseen { UNSEEN_EFFORT } else { 0.0 });
+        let growth = ((allowed - spent) / effort).min(MOST_GROWTH);
+        if size < MOST_SIZE && growth >= LEAST_GROWTH {
+            size = ((growth * size as f64) as usize).min(MOST_SIZE);
+            limit = FREE_EFFORT.max(allowed - spent);
             continue;
         }
         let ordering = within_need(&mut search, best, &mut bounds, lent);

@@ -18,9 +18,8 @@ pub struct Found {
 /// A search under way.
 pub struct Search<'s, 'a> {
     pub samples: &'s mut Samples<'a>,
-    /// Sampling stops at so much effort, or at this share of the best plan's time.
+    /// Once a plan is found, sampling stops at so much effort.
     effort: f64,
-    effort_share: f64,
     /// Plans of up to so many times the best time are kept.
     slack: f64,
     pub best: f64,
@@ -32,12 +31,11 @@ pub struct Search<'s, 'a> {
 }
 
 impl<'s, 'a> Search<'s, 'a> {
-    pub fn new(samples: &'s mut Samples<'a>, effort: f64, effort_share: f64) -> Search<'s, 'a> {
+    pub fn new(samples: &'s mut Samples<'a>, effort: f64) -> Search<'s, 'a> {
         let sets = 1 << samples.query.vertices();
         Search {
             samples,
             effort,
-            effort_share,
             slack: 1.0,
             best: f64::MAX,
             found: Vec::new(),
@@ -45,6 +43,19 @@ impl<'s, 'a> Search<'s, 'a> {
             plan: Vec::with_capacity(8),
             nodes: 0,
         }
+    }
+
+    /// The best ordering. Estimates get better while the search goes on, so it is made again from the first one's best plan, by the
+    /// estimates as they are then.
+    pub fn best_ordering(&mut self) -> Option<Found> {
+        self.orderings();
+        let first = self.found.pop()?;
+        self.stages.iter_mut().for_each(|stage| *stage = None);
+        self.nodes = 0;
+        let stage = *self.samples.stages(&first.plan).last()?;
+        self.best = stage.time;
+        self.orderings();
+        Some(self.found.pop().unwrap_or(Found { stage, plan: first.plan }))
     }
 
     /// All orderings.
@@ -108,8 +119,7 @@ impl<'s, 'a> Search<'s, 'a> {
         }
         self.note(stage);
         self.nodes += 1;
-        let spent = self.samples.effort > self.effort.max(self.effort_share * self.best);
-        if self.nodes > MOST_NODES || (spent && !self.found.is_empty()) {
+        if self.nodes > MOST_NODES || (self.is_spent() && self.best < f64::MAX) {
             return;
         }
         self.samples.extend_all(stage.set);
@@ -122,6 +132,11 @@ impl<'s, 'a> Search<'s, 'a> {
             }
             self.go_on(next, Operator::Extend(v));
         }
+    }
+
+    /// Whether sampling took all that it may.
+    pub fn is_spent(&self) -> bool {
+        self.samples.effort > self.effort
     }
 
     /// The sets that were covered below a time, ascending.

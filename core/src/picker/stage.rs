@@ -3,7 +3,7 @@
 use super::cache::{Prefix, Prefixes};
 use super::query::{Operator, Set};
 use super::samples::Samples;
-use super::time::{time_of, Part};
+use super::time::{is_early, time_of, Part};
 
 /// The result of an operator, and all that went into it.
 #[derive(Clone, Copy, Debug)]
@@ -58,7 +58,8 @@ impl Samples<'_> {
             + time_of(Part::Cached, cached)
             + time_of(Part::Kept, cached * extension.set)
             + time_of(Part::Output, out)
-            + time_of(Part::Word, out * (stage.width() + 1.0));
+            + time_of(Part::Word, out * (stage.width() + 1.0))
+            + if is_early(*set, v) { time_of(Part::Early, out) } else { 0.0 };
         let own = |i: usize| match used & !prefixes.all()[i].set {
             0 => self.mean_at(prefixes, i, v).map(|(_, hit)| hit),
             _ => None,

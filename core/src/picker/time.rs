@@ -1,5 +1,7 @@
 //! The time of a run, as a sum of works times what each takes.
 
+use super::query::Set;
+
 /// The works that a run's time is made of.
 #[derive(Clone, Copy, Debug, PartialEq, Eq)]
 pub enum Part {
@@ -30,6 +32,8 @@ pub enum Part {
     /// A row of an operator's result, and a word of it.
     Output,
     Word,
+    /// A row of an extend whose new vertex stands in its first or second column.
+    Early,
     /// A build row of a join.
     Build,
     /// A probe row.
@@ -41,7 +45,7 @@ pub enum Part {
 }
 
 /// How many parts there are.
-pub const PARTS: usize = 18;
+pub const PARTS: usize = 19;
 
 /// Every part, in the order of a `Work`'s numbers.
 pub const ALL: [Part; PARTS] = [
@@ -59,6 +63,7 @@ pub const ALL: [Part; PARTS] = [
     Part::Kept,
     Part::Output,
     Part::Word,
+    Part::Early,
     Part::Build,
     Part::Probe,
     Part::Joined,
@@ -85,6 +90,11 @@ impl Work {
     pub fn time(&self) -> f64 {
         self.0.iter().zip(&NANOSECONDS).map(|(amount, each)| amount * each).sum()
     }
+}
+
+/// Whether the new vertex of an extend stands in the first or second column of its rows.
+pub fn is_early(set: Set, v: usize) -> bool {
+    (set & ((1 << v) - 1)).count_ones() < 2
 }
 
 /// The time of so much of one part.
