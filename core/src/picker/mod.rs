@@ -16,7 +16,7 @@ mod cache;
 mod ends;
 pub mod extension;
 mod joins;
-mod need;
+pub mod need;
 pub mod numbers;
 pub mod query;
 mod samples;
@@ -142,28 +142,31 @@ fn has_unseen(samples: &Samples, plan: &[Operator]) -> bool {
     })
 }
 
-/// The best ordering, or one that takes at most a tenth longer and needs less; of those that may not fit what is lent, none while
-/// another does.
+/// The best ordering, or one that takes at most a tenth longer and needs less. Where its need may pass what is lent, the fastest that
+/// was come upon whose need may not, or the one with the least bound.
 fn within_need(search: &mut Search, best: Found, bounds: &mut Bounds, lent: u64) -> Found {
-    let most = search.samples.fitting_words();
-    let fits = lent >= most || bounds.need(&best.plan) <= lent;
-    if best.stage.need <= NEED_FLOOR && fits {
+    if lent < search.samples.fitting_words() && bounds.need(&best.plan) > lent {
+        search.orderings_within(f64::MAX);
+        let within = |found: &Found| bounds.need(&found.plan) <= lent;
+        let found = fastest(std::mem::take(&mut search.found).into_iter().filter(within));
+        return found.unwrap_or_else(|| {
+            let plan = bounds.least_ordering().0;
+            search.samples.stages(&plan).last().map_or(best, |&stage| Found { stage, plan })
+        });
+    }
+    if best.stage.need <= NEED_FLOOR {
         return best;
     }
     search.best = best.stage.time;
-    search.orderings_within(if fits { NEED_SLACK } else { f64::MAX });
-    let key = |found: &Found, bound: u64| (bound > lent, found.stage.need.max(NEED_FLOOR), found.stage.time);
-    let mut least = key(&best, if fits { 0 } else { u64::MAX });
-    let mut taken = best;
-    for found in std::mem::take(&mut search.found) {
-        let bound = if lent >= most { 0 } else { bounds.need(&found.plan) };
-        let its = key(&found, bound);
-        if its < least {
-            least = its;
-            taken = found;
-        }
-    }
-    taken
+    search.orderings_within(NEED_SLACK);
+    let all = std::mem::take(&mut search.found);
+    let least = all.iter().map(|found| found.stage.need.max(NEED_FLOOR)).fold(best.stage.need, f64::min);
+    let fits = |found: &Found| found.stage.need <= least && (lent >= MAX_WORDS || bounds.need(&found.plan) <= lent);
+    fastest(all.into_iter().filter(fits)).unwrap_or(best)
+}
+
+fn fastest(all: impl Iterator<Item = Found>) -> Option<Found> {
+    all.min_by(|a, b| a.stage.time.total_cmp(&b.stage.time))
 }
 
 /// A plan with what is thought of it.

@@ -76,14 +76,19 @@ impl<'s, 'a> Search<'s, 'a> {
         self.slack = slack;
         self.nodes = 0;
         self.found.clear();
+        if slack == f64::MAX {
+            self.effort = f64::MAX;
+        }
         self.orderings();
-        let limit = self.slack * self.best;
+        let limit = slack * self.best;
         self.found.retain(|found| found.stage.time <= limit);
+        self.slack = 1.0;
     }
 
     /// Goes on from a stage of a plan that ends with a join, to plans faster than a time.
     pub fn from_stage(&mut self, stage: Stage, plan: &[Operator], below: f64) {
-        self.best = self.best.min(below);
+        self.best = below;
+        self.nodes = 0;
         self.plan = plan.to_vec();
         self.deeper(stage);
         self.plan.clear();
