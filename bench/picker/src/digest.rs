@@ -1,4 +1,5 @@
-//! A number made of many picks, plans and estimates to the last bit: two machines that pick alike have the same.
+//! A number made of many picks, plans and estimates to the last bit: two machines that pick alike have the
+//! same.
 use crate::patterns::{packed, pattern};
 use crate::picker::store::{Store, SPAN};
 use crate::picker::{pick, Statistics, MAX_WORDS};
@@ -11,7 +12,8 @@ fn store_words(labels: &[u32], days: &[u32], edges: &BTreeSet<(u32, u32, u32)>) 
     let mut words = vec![n as u32, edges.len() as u32];
     words.extend(labels);
     words.extend(days);
-    let backward: BTreeSet<_> = edges.iter().map(|&(source, label, target)| (target, label, source)).collect();
+    let backward: BTreeSet<_> =
+        edges.iter().map(|&(source, label, target)| (target, label, source)).collect();
     for side in [edges, &backward] {
         let mut offsets = vec![0; n + 1];
         side.iter().for_each(|edge| offsets[edge.0 as usize + 1] += 1);

@@ -68,8 +68,9 @@ impl Engine {
         Engine { store, scratch: Vec::new(), list: Vec::new(), most }
     }
 
-    /// Runs a plan until its buffers are long enough, beginning with so many words of scratch and list; nothing where they would be
-    /// longer than is allowed. `edges` are the ends of the query's edges, as sets.
+    /// Runs a plan until its buffers are long enough, beginning with so many words of scratch and list;
+    /// nothing where they would be longer than is allowed. `edges` are the ends of the query's edges, as
+    /// sets.
     pub fn fit(
         &mut self,
         query: &[u8],
@@ -119,7 +120,8 @@ impl Engine {
     pub fn sorted_rows(&mut self, query: &[u8], fitted: &Fitted) -> Vec<Vec<u32>> {
         self.time(query, fitted);
         let width = usize::from(query[0] >> 4);
-        let mut rows: Vec<Vec<u32>> = self.list[..fitted.rows * width].chunks(width).map(<[u32]>::to_vec).collect();
+        let mut rows: Vec<Vec<u32>> =
+            self.list[..fitted.rows * width].chunks(width).map(<[u32]>::to_vec).collect();
         rows.sort();
         rows
     }

@@ -1,11 +1,13 @@
-//! The exact work of an ordering: its rows are made one operator after the other, and what each takes is counted.
+//! The exact work of an ordering: its rows are made one operator after the other, and what each takes is
+//! counted.
 use crate::picker::extension::{Extending, Row};
 use crate::picker::numbers::Random;
 use crate::picker::query::{Operator, Query, MAX_VERTICES};
 use crate::picker::store::Store;
 use crate::picker::time::{is_early, Part, Work};
 
-/// The work of an ordering with the cache on, and the rows of its operators; nothing above so many rows, or for a plan with a join.
+/// The work of an ordering with the cache on, and the rows of its operators; nothing above so many rows, or
+/// for a plan with a join.
 pub fn work(store: &Store, query: &Query, plan: &[Operator], most: usize) -> Option<(Work, Vec<usize>)> {
     let mut work = Work::default();
     let (mut rows, mut counts): (Vec<Row>, Vec<usize>) = (Vec::new(), Vec::new());
@@ -16,8 +18,10 @@ pub fn work(store: &Store, query: &Query, plan: &[Operator], most: usize) -> Opt
                 let edge = query.edges[i];
                 set = edge.ends();
                 work.put(Part::Vertex, store.vertices() as f64);
-                let sources = (0..store.vertices() as u32).filter(|&x| store.fits(&query.filters[edge.from], x));
-                let sources: Vec<Row> = sources.map(|x| with(&[u32::MAX; MAX_VERTICES], edge.from, x)).collect();
+                let sources =
+                    (0..store.vertices() as u32).filter(|&x| store.fits(&query.filters[edge.from], x));
+                let sources: Vec<Row> =
+                    sources.map(|x| with(&[u32::MAX; MAX_VERTICES], edge.from, x)).collect();
                 rows = extended(store, query, 1 << edge.from, edge.to, &sources, most, &mut work)?;
             }
             Operator::Extend(v) => {

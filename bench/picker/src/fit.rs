@@ -1,4 +1,6 @@
-//! The fit of the time model: the works of many runs beside their times, by least squares of the relative errors, no part below 0.
+//! The fit of the time model: the works of many runs beside their times, by least squares of the relative
+//! errors, no part below 0.
+use crate::record::Check;
 use picker_bench::engine::Engine;
 use picker_bench::exact::work;
 use picker_bench::patterns::{orderings, packed, pattern};
@@ -6,12 +8,11 @@ use picker_bench::picker::query::{Operator, Query};
 use picker_bench::picker::store::Store as Parts;
 use picker_bench::picker::time::{Part, Work, ALL, PARTS};
 use picker_bench::random::Random;
-use crate::record::Check;
 use trace::Store;
 
 /// Rows of an operator at most, and nanoseconds besides the store check at least: shorter runs are noise.
 const MOST_ROWS: usize = 400_000;
-const LEAST_TIME: f64 = 6e5;
+const LEAST_TIME: f64 = 1e6;
 /// Plans of a pattern at most.
 const PLANS: usize = 5;
 
@@ -26,7 +27,12 @@ fn random_join(query: &Query, random: &mut Random) -> Option<[Vec<Operator>; 2]>
     for _ in 0..50 {
         let [(one, build), (other, probe)] = [(); 2].map(|()| random_part(query, random));
         let (left, right) = (one & !other, other & !one);
-        if one & other != 0 && left != 0 && right != 0 && one | other == query.all() && !query.joined(left, right) {
+        if one & other != 0
+            && left != 0
+            && right != 0
+            && one | other == query.all()
+            && !query.joined(left, right)
+        {
             return Some([build, probe]);
         }
     }
@@ -115,28 +121,43 @@ fn runs_of(name: &str, file: &[u8], random: &mut Random, count: usize, runs: &mu
     eprintln!("{name}: {patterns} patterns, {} runs", runs.len() - before);
 }
 
-/// The coefficients with the least sum of squared relative errors, none below 0: one after the other, until nothing moves.
+/// Errors beyond this share count by their size and not by its square: a run that the model knows little
+/// of, or a slow moment, does not bend it.
+const LARGE_ERROR: f64 = 0.25;
+
+/// The coefficients with the least sum of squared relative errors, none below 0: the squares are weighed
+/// anew until they settle.
 fn solved(runs: &[Run]) -> [f64; PARTS] {
-    let scaled: Vec<[f64; PARTS]> = runs.iter().map(|run| run.work.0.map(|amount| amount / run.time)).collect();
+    let scaled: Vec<[f64; PARTS]> =
+        runs.iter().map(|run| run.work.0.map(|amount| amount / run.time)).collect();
     let mut coefficients = [0.0; PARTS];
-    let mut errors: Vec<f64> = vec![-1.0; runs.len()];
-    for _ in 0..4_000 {
-        for part in 0..PARTS {
-            let (mut slope, mut curve) = (0.0, 1e-12);
-            for (row, error) in scaled.iter().zip(&errors) {
-                // An error beyond one is counted as one: a run that the model knows nothing of does not bend it.
-                slope += row[part] * error.clamp(-1.0, 1.0);
-                curve += row[part] * row[part];
-            }
-            let new = f64::max(0.0, coefficients[part] - slope / curve);
-            let step = new - coefficients[part];
-            coefficients[part] = new;
-            for (row, error) in scaled.iter().zip(&mut errors) {
-                *error += step * row[part];
+    for _ in 0..40 {
+        let (mut products, mut sums) = ([[0.0; PARTS]; PARTS], [0.0; PARTS]);
+        for row in &scaled {
+            let error = row.iter().zip(&coefficients).map(|(amount, each)| amount * each).sum::<f64>() - 1.0;
+            let weight = if error.abs() <= LARGE_ERROR { 1.0 } else { LARGE_ERROR / error.abs() };
+            for i in 0..PARTS {
+                sums[i] += weight * row[i];
+                (0..PARTS).for_each(|j| products[i][j] += weight * row[i] * row[j]);
             }
         }
+        coefficients = least(&products, &sums, coefficients);
     }
     coefficients
+}
+
+/// The numbers, none below 0, for which x·products·x / 2 − x·sums is least: one after the other, until
+/// nothing moves.
+fn least(products: &[[f64; PARTS]; PARTS], sums: &[f64; PARTS], start: [f64; PARTS]) -> [f64; PARTS] {
+    let mut x = start;
+    for _ in 0..20_000 {
+        for i in (0..PARTS).filter(|&i| products[i][i] > 0.0) {
+            let slope: f64 =
+                products[i].iter().zip(&x).map(|(product, x)| product * x).sum::<f64>() - sums[i];
+            x[i] = f64::max(0.0, x[i] - slope / products[i][i]);
+        }
+    }
+    x
 }
 
 /// Measures, solves, says how well it fits, and prints the coefficients as the module's file.
@@ -146,8 +167,14 @@ pub fn run(names: &[&str], seed: u64, count: usize, graph: fn(&str) -> Vec<u8>) 
     for name in names {
         runs_of(name, &graph(name), &mut random, count, &mut runs);
     }
+    if let Some(path) = std::env::var_os("FIT_RUNS") {
+        let line =
+            |run: &Run| format!("{}\t{}\n", run.time, run.work.0.map(|amount| amount.to_string()).join("\t"));
+        std::fs::write(path, runs.iter().map(line).collect::<String>()).expect("the runs are written");
+    }
     let coefficients = solved(&runs);
-    let model = |run: &Run| run.work.0.iter().zip(&coefficients).map(|(amount, each)| amount * each).sum::<f64>();
+    let model =
+        |run: &Run| run.work.0.iter().zip(&coefficients).map(|(amount, each)| amount * each).sum::<f64>();
     let mut ratios: Vec<f64> = runs.iter().map(|run| model(run) / run.time).collect();
     ratios.sort_by(f64::total_cmp);
     let at = |percent: usize| ratios[(ratios.len() - 1) * percent / 100];

@@ -1,4 +1,5 @@
-//! Measures picked plans beside drawn ones and the best, and fits the picker's time model. `bench/picker/run` says how to call it.
+//! Measures picked plans beside drawn ones and the best, and fits the picker's time model.
+//! `bench/picker/run` says how to call it.
 mod fit;
 mod measure;
 mod record;

@@ -9,7 +9,8 @@ pub struct Measured<'r> {
     pub picked: Picked,
     pub plan: Vec<Operator>,
     pub pick_time: f64,
-    /// Times of whole runs, the least of some. A drawn plan, or the best, that was too long to run has none.
+    /// Times of whole runs, the least of some. A drawn plan, or the best, that was too long to run has
+    /// none.
     pub picked_time: f64,
     pub drawn_time: Option<f64>,
     pub best_time: f64,
@@ -29,7 +30,8 @@ pub fn measured<'r>(bench: &mut Bench, recorded: &'r Recorded) -> Option<Measure
     let picked = pick(&bench.words, &bench.statistics, file, MAX_WORDS)?;
     let pick_time = least_of(5, || timed(|| pick(&bench.words, &bench.statistics, file, MAX_WORDS)));
     let plan = unpack(&picked.plan)?;
-    let time_of = |plan: &[Operator]| recorded.timed.iter().find(|timed| timed.plan == plan).map(|timed| timed.time);
+    let time_of =
+        |plan: &[Operator]| recorded.timed.iter().find(|timed| timed.plan == plan).map(|timed| timed.time);
     let picked_time = match time_of(&plan) {
         Some(time) => time,
         None => {

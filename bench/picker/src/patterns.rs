@@ -1,5 +1,5 @@
-//! Random patterns over a graph. Each is read off some place of the graph, so that it has a match: a connected part, of which some
-//! edges, labels and days are asked for.
+//! Random patterns over a graph. Each is read off some place of the graph, so that it has a match: a
+//! connected part, of which some edges, labels and days are asked for.
 use crate::graphs::Bits;
 use crate::picker::query::{Edge, Filter, Operator, Query};
 use crate::picker::store::{neighbour, Direction, Store, SPAN};
@@ -58,8 +58,8 @@ struct Kind {
     pair: usize,
 }
 
-/// A random pattern of so many vertices that has a match in a graph with an edge; nothing where no connected part of so many vertices
-/// was come upon.
+/// A random pattern of so many vertices that has a match in a graph with an edge; nothing where no
+/// connected part of so many vertices was come upon.
 pub fn pattern(store: &Store, n: usize, random: &mut Random) -> Option<Query> {
     let kind = Kind {
         labels: random.one_of(&[0, 30, 60, 100]),

@@ -1,5 +1,5 @@
-//! Patterns whose orderings are all run: what each took. The picker is held against this record, which knows nothing of it but which
-//! orderings were passed by as hopeless.
+//! Patterns whose orderings are all run: what each took. The picker is held against this record, which
+//! knows nothing of it but which orderings were passed by as hopeless.
 use picker_bench::engine::{now, Engine, Fitted};
 use picker_bench::patterns::{orderings, packed, pattern, ANY};
 use picker_bench::picker::query::{Edge, Filter, Operator, Query};
@@ -18,7 +18,8 @@ const LONG: f64 = 4e8;
 /// Orderings are passed by that take so many times the best time by the estimate, and so many nanoseconds.
 const HOPELESS: f64 = 10.0;
 const NOT_SHORT: f64 = 1e7;
-/// Plans are run again that take at most so much longer than the best: one slow minute is not taken for a slow plan.
+/// Plans are run again that take at most so much longer than the best: one slow minute is not taken for a
+/// slow plan.
 const CHEAP: f64 = 5e6;
 
 /// A plan that was run, and its least time in nanoseconds.
@@ -62,7 +63,8 @@ pub fn timed<T>(work: impl FnOnce() -> T) -> f64 {
     now() - start
 }
 
-/// A run that lists nothing, since no vertex has the label that its query asks for: it takes the time of the store check.
+/// A run that lists nothing, since no vertex has the label that its query asks for: it takes the time of
+/// the store check.
 pub struct Check {
     file: Vec<u8>,
     fitted: Fitted,
@@ -109,7 +111,12 @@ impl Bench {
     }
 
     /// Random patterns, recorded.
-    pub fn record(&mut self, random: &mut Random, count: usize, sizes: RangeInclusive<usize>) -> Vec<Recorded> {
+    pub fn record(
+        &mut self,
+        random: &mut Random,
+        count: usize,
+        sizes: RangeInclusive<usize>,
+    ) -> Vec<Recorded> {
         let words = self.words.clone();
         let parts = Parts::of(&words).expect("a store");
         let mut all = Vec::new();
@@ -129,7 +136,8 @@ impl Bench {
         let file = packed(&query);
         let drawn = unpack(&self.engine.store.draw_plan(&file).expect("a drawn plan")).expect("operators");
         let plans = if query.vertices() <= ALL_ORDERINGS { orderings(&query) } else { vec![drawn.clone()] };
-        let mut recorded = Recorded { query, file, drawn, timed: Vec::new(), skipped: 0, rows: 0, check_time: f64::MAX };
+        let mut recorded =
+            Recorded { query, file, drawn, timed: Vec::new(), skipped: 0, rows: 0, check_time: f64::MAX };
         let thoughts: Vec<Picked> = plans.iter().map(|plan| self.estimate(&recorded, plan)).collect();
         let best = thoughts.iter().map(|thought| thought.time).fold(f64::MAX, f64::min);
         if best > LONG {
@@ -138,7 +146,11 @@ impl Bench {
         let mut fitted: Vec<(Fitted, f64, Vec<Operator>)> = Vec::new();
         for (plan, thought) in plans.into_iter().zip(&thoughts) {
             let hopeless = thought.time > (HOPELESS * best).max(NOT_SHORT) && plan != recorded.drawn;
-            let run = if hopeless || thought.time > 4.0 * LONG { None } else { self.fit(&recorded, &plan, thought) };
+            let run = if hopeless || thought.time > 4.0 * LONG {
+                None
+            } else {
+                self.fit(&recorded, &plan, thought)
+            };
             match run {
                 Some(run) => {
                     let time = self.engine.time(&recorded.file, &run);
@@ -165,9 +177,11 @@ pub fn to_text(bench: &Bench, all: &[Recorded]) -> String {
     let hex = |bytes: &[u8]| bytes.iter().map(|byte| format!("{byte:02x}")).collect::<String>();
     let mut out = format!("{} {}\n", bench.check_time, bench.statistics_time);
     for one in all {
-        let plans: Vec<String> = one.timed.iter().map(|t| format!("{}:{}", hex(&pack(&t.plan)), t.time)).collect();
+        let plans: Vec<String> =
+            one.timed.iter().map(|t| format!("{}:{}", hex(&pack(&t.plan)), t.time)).collect();
         let (file, drawn) = (hex(&one.file), hex(&pack(&one.drawn)));
-        out += &format!("{file} {drawn} {} {} {} {}\n", one.skipped, one.rows, one.check_time, plans.join(" "));
+        out +=
+            &format!("{file} {drawn} {} {} {} {}\n", one.skipped, one.rows, one.check_time, plans.join(" "));
     }
     out
 }
@@ -175,11 +189,14 @@ pub fn to_text(bench: &Bench, all: &[Recorded]) -> String {
 /// The record of such lines, with the times that were measured then.
 pub fn from_text(bench: &mut Bench, text: &str) -> Vec<Recorded> {
     let bytes = |hex: &str| -> Vec<u8> {
-        (0..hex.len() / 2).map(|i| u8::from_str_radix(&hex[2 * i..2 * i + 2], 16).expect("hexadecimal")).collect()
+        (0..hex.len() / 2)
+            .map(|i| u8::from_str_radix(&hex[2 * i..2 * i + 2], 16).expect("hexadecimal"))
+            .collect()
     };
     let plan = |hex: &str| unpack(&bytes(hex)).expect("a plan");
     let mut lines = text.lines();
-    let head: Vec<f64> = lines.next().expect("a head").split(' ').map(|n| n.parse().expect("a number")).collect();
+    let head: Vec<f64> =
+        lines.next().expect("a head").split(' ').map(|n| n.parse().expect("a number")).collect();
     (bench.check_time, bench.statistics_time) = (head[0], head[1]);
     let one = |line: &str| {
         let fields: Vec<&str> = line.split(' ').collect();

@@ -33,7 +33,9 @@ fn bare(m: &Measured, time: f64) -> f64 {
 }
 
 pub fn table(found: &[Measured]) -> String {
-    let mut out = String::from("ratio\tbare\tdrawn\tbest ms\tthought\tpicked ms\tthought\tpick us\tpicked\tbest\trows\tquery\n");
+    let mut out = String::from(
+        "ratio\tbare\tdrawn\tbest ms\tthought\tpicked ms\tthought\tpick us\tpicked\tbest\trows\tquery\n",
+    );
     for m in found {
         let (ratio, naked) = (m.picked_time / m.best_time, bare(m, m.picked_time) / bare(m, m.best_time));
         let drawn = m.drawn_time.map_or(f64::INFINITY, |drawn| drawn / m.best_time);
@@ -72,7 +74,9 @@ fn spread(mut numbers: Vec<f64>) -> String {
 }
 
 pub fn percentiles(name: &str, bench: &Bench, found: &[Measured]) -> String {
-    let mut out = format!("\n### {name}\n\n| | 50 % | 90 % | 95 % | 99 % | most | patterns |\n|---|--:|--:|--:|--:|--:|--:|\n");
+    let mut out = format!(
+        "\n### {name}\n\n| | 50 % | 90 % | 95 % | 99 % | most | patterns |\n|---|--:|--:|--:|--:|--:|--:|\n"
+    );
     let mut row = |title: &str, numbers: Vec<f64>| {
         let _ = writeln!(out, "| {title} {} |", spread(numbers));
     };
@@ -81,9 +85,18 @@ pub fn percentiles(name: &str, bench: &Bench, found: &[Measured]) -> String {
     row("picked / best", found.iter().map(|m| m.picked_time / m.best_time).collect());
     row("drawn / best", found.iter().map(|m| drawn(m) / m.best_time).collect());
     row("picked / drawn", found.iter().map(|m| m.picked_time / drawn(m)).collect());
-    row("picked / best, without store check", long.iter().map(|m| bare(m, m.picked_time) / bare(m, m.best_time)).collect());
-    row("drawn / best, without store check", long.iter().map(|m| bare(m, drawn(m)) / bare(m, m.best_time)).collect());
-    row("picked / drawn, without store check", long.iter().map(|m| bare(m, m.picked_time) / bare(m, drawn(m))).collect());
+    row(
+        "picked / best, without store check",
+        long.iter().map(|m| bare(m, m.picked_time) / bare(m, m.best_time)).collect(),
+    );
+    row(
+        "drawn / best, without store check",
+        long.iter().map(|m| bare(m, drawn(m)) / bare(m, m.best_time)).collect(),
+    );
+    row(
+        "picked / drawn, without store check",
+        long.iter().map(|m| bare(m, m.picked_time) / bare(m, drawn(m))).collect(),
+    );
     row("picking, µs", found.iter().map(|m| m.pick_time / 1e3).collect());
     row("picking / bar", found.iter().map(|m| m.pick_time / (0.02 * m.picked_time).max(2e6)).collect());
     row("estimated / true time", long.iter().map(|m| m.picked.time / bare(m, m.picked_time)).collect());

@@ -1,4 +1,5 @@
-//! Estimates that are no guesses: over small graphs every sample is whole, and bounds are kept whatever is lent.
+//! Estimates that are no guesses: over small graphs every sample is whole, and bounds are kept whatever is
+//! lent.
 mod common;
 
 use common::{graph, picked, query, Shape};

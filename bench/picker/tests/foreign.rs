@@ -8,8 +8,16 @@ use picker_bench::random::Random;
 use std::collections::BTreeSet;
 use trace::Store;
 
-/// The graph with other edges of labels that a query does not name: a share of them taken away, and some drawn anew.
-fn with_others(graph: &Graph, query: &Query, kept: usize, added: usize, labels: usize, random: &mut Random) -> Graph {
+/// The graph with other edges of labels that a query does not name: a share of them taken away, and some
+/// drawn anew.
+fn with_others(
+    graph: &Graph,
+    query: &Query,
+    kept: usize,
+    added: usize,
+    labels: usize,
+    random: &mut Random,
+) -> Graph {
     let named: BTreeSet<u8> = query.edges.iter().map(|edge| edge.label as u8).collect();
     let mut edges = BTreeSet::new();
     for &edge in &graph.edges {
@@ -27,7 +35,12 @@ fn with_others(graph: &Graph, query: &Query, kept: usize, added: usize, labels: 
             edges.insert((ends.0 as u16, label, ends.1 as u16));
         }
     }
-    Graph { name: String::new(), labels: graph.labels.clone(), days: graph.days.clone(), edges: edges.into_iter().collect() }
+    Graph {
+        name: String::new(),
+        labels: graph.labels.clone(),
+        days: graph.days.clone(),
+        edges: edges.into_iter().collect(),
+    }
 }
 
 fn same_picks(graphs: usize, vertices: &[usize], degree: usize, seed: u64) {

@@ -34,7 +34,8 @@ fn picked_plans_list_what_drawn_plans_list() {
             let found = same_list(&store, &query, &picked, &mut buffers);
             rows += found;
             with_rows += usize::from(found > 0);
-            with_a_join += usize::from(picked.operators.iter().any(|estimate| estimate.operator == Operator::Join));
+            with_a_join +=
+                usize::from(picked.operators.iter().any(|estimate| estimate.operator == Operator::Join));
         }
     }
     println!("{rows} rows, {with_rows} queries with rows, {with_a_join} plans with a join");

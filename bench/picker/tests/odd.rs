@@ -48,7 +48,11 @@ fn vertices_without_an_edge() {
 #[test]
 fn labels_that_do_not_occur_and_days_that_nothing_has() {
     let store = store(&graph(LARGE, &mut Random::new(1)));
-    for filter in [Filter { label: 65_535, ..ANY }, Filter { first: 101, ..ANY }, Filter { label: 3, first: 300, last: 400 }] {
+    for filter in [
+        Filter { label: 65_535, ..ANY },
+        Filter { first: 101, ..ANY },
+        Filter { label: 3, first: 300, last: 400 },
+    ] {
         for at in 0..3 {
             let mut filters = [ANY; 3];
             filters[at] = filter;

@@ -1,7 +1,9 @@
-//! The model of the cache: an extend computes the new vertices of a row only where a vertex that it uses differs from the row before.
+//! The model of the cache: an extend computes the new vertices of a row only where a vertex that it uses
+//! differs from the row before.
 //!
-//! Rows stand in the order in which their vertices were covered, so rows with equal beginnings stand together. The covered sets of a
-//! plan, one after the other, are the prefixes; of each it is estimated how many different beginnings still have a row.
+//! Rows stand in the order in which their vertices were covered, so rows with equal beginnings stand
+//! together. The covered sets of a plan, one after the other, are the prefixes; of each it is estimated how
+//! many different beginnings still have a row.
 
 use super::numbers::at_least_once;
 use super::query::{Set, MAX_VERTICES};
@@ -48,8 +50,8 @@ impl Prefixes {
         self.all().iter().position(|prefix| used & !prefix.set == 0).unwrap_or(self.len - 1)
     }
 
-    /// After an operator that gives a share `hit` of the rows a result, and `own(i)` of the beginnings of prefix i where that is known
-    /// from the prefix itself.
+    /// After an operator that gives a share `hit` of the rows a result, and `own(i)` of the beginnings of
+    /// prefix i where that is known from the prefix itself.
     pub fn surviving(&self, rows: f64, hit: f64, own: impl Fn(usize) -> Option<f64>) -> Prefixes {
         let mut after = *self;
         for i in 0..after.len {

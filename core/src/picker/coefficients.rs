@@ -1,5 +1,6 @@
-/// What each part takes, in nanoseconds, in the order of `ALL`. `bench/picker/run fit` measures the engine and writes this file.
+/// What each part takes, in nanoseconds, in the order of `ALL`. `bench/picker/run fit` measures the engine
+/// and writes this file.
 const NANOSECONDS: [f64; PARTS] = [
-    2.320, 0.000, 20.264, 0.745, 2.740, 6.286, 3.922, 72.036, 1.525,
-    5.123, 20.555, 1.357, 0.000, 1.321, 1.500, 1.565, 10.648, 6.401, 0.000,
+    2.790, 0.049, 22.405, 0.789, 5.456, 4.527, 2.555, 30.560, 2.491,
+    3.961, 20.177, 0.000, 0.000, 1.054, 4.098, 3.930, 11.400, 6.886, 0.000,
 ];

@@ -1,10 +1,12 @@
-//! Means over the different vertices of an end: the cache computes an extend that uses one end only once for each of its vertices.
+//! Means over the different vertices of an end: the cache computes an extend that uses one end only once
+//! for each of its vertices.
 
 use super::extension::Row;
 use super::query::{Query, Set};
 use super::store::{Direction, Store};
 
-/// Sums over the rows of two ends, each row weighed by one over the rows that share an end's vertex, so that each vertex counts once.
+/// Sums over the rows of two ends, each row weighed by one over the rows that share an end's vertex, so
+/// that each vertex counts once.
 pub struct Ends {
     /// For each end its vertex, and where its portion to the other leads.
     ends: Option<[(usize, Direction, u32); 2]>,
@@ -13,10 +15,16 @@ pub struct Ends {
 
 impl Ends {
     pub fn new(query: &Query, set: Set) -> Ends {
-        let between = if set.count_ones() == 2 { query.edges.iter().find(|edge| edge.ends() == set) } else { None };
+        let between =
+            if set.count_ones() == 2 { query.edges.iter().find(|edge| edge.ends() == set) } else { None };
         let ends = between.map(|edge| {
-            let (from, to) = ((edge.from, Direction::Forward, edge.label), (edge.to, Direction::Backward, edge.label));
-            if edge.from < edge.to { [from, to] } else { [to, from] }
+            let (from, to) =
+                ((edge.from, Direction::Forward, edge.label), (edge.to, Direction::Backward, edge.label));
+            if edge.from < edge.to {
+                [from, to]
+            } else {
+                [to, from]
+            }
         });
         Ends { ends, sums: [(0.0, 0.0, 0.0); 2] }
     }

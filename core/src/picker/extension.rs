@@ -1,4 +1,5 @@
-//! The new vertices of one row: what an extend, or a scan from a source, finds for it, and the work that takes.
+//! The new vertices of one row: what an extend, or a scan from a source, finds for it, and the work that
+//! takes.
 
 use super::numbers::{log2, Random};
 use super::query::{Descriptor, Edge, Query, Set, MAX_VERTICES};
@@ -54,8 +55,8 @@ impl<'q> Extending<'q> {
         self.set = 0;
     }
 
-    /// Puts the new vertices of a row behind `found`. Of the shortest portion at most `most` entries are looked at, evenly; the work
-    /// is that of the whole row.
+    /// Puts the new vertices of a row behind `found`. Of the shortest portion at most `most` entries are
+    /// looked at, evenly; the work is that of the whole row.
     pub fn look(
         &self,
         store: &Store,
@@ -126,7 +127,8 @@ impl<'q> Extending<'q> {
 
     /// Whether the portions besides the first two lead to a vertex.
     fn in_others(&self, portions: &Portions, x: u32) -> bool {
-        (0..self.descriptors.len()).all(|j| j == portions.one || j == portions.two || leads_to(portions.all[j], x))
+        (0..self.descriptors.len())
+            .all(|j| j == portions.one || j == portions.two || leads_to(portions.all[j], x))
     }
 
     /// Whether the row has a vertex not yet, and its pairs allow it.
@@ -163,7 +165,8 @@ impl<'q> Extending<'q> {
         }
     }
 
-    /// The work of a row by bit sets: a portion is marked, or where it is far longer than the shortest, searched.
+    /// The work of a row by bit sets: a portion is marked, or where it is far longer than the shortest,
+    /// searched.
     fn put_sets(&self, portions: &Portions, work: &mut Work) {
         let len = portions.all[portions.one].len();
         work.put(Part::Sets, 1.0);
@@ -185,8 +188,9 @@ impl<'q> Extending<'q> {
     }
 }
 
-/// Whether the ends of a scanned edge are a row: they fit, differ, their pairs allow them, and the other edges between them are there.
-/// Of the labels between them that a query edge of label 0 may mean, the given one must be the first.
+/// Whether the ends of a scanned edge are a row: they fit, differ, their pairs allow them, and the other
+/// edges between them are there. Of the labels between them that a query edge of label 0 may mean, the
+/// given one must be the first.
 pub fn is_scan_row(query: &Query, store: &Store, edge: &Edge, row: &Row, label: u32) -> bool {
     let (a, b) = (edge.from, edge.to);
     let (x, y) = (row[a], row[b]);
@@ -200,6 +204,7 @@ pub fn is_scan_row(query: &Query, store: &Store, edge: &Edge, row: &Row, label: 
         let direction = if other.from == a { Forward } else { Backward };
         other.ends() != ends || leads_to(store.portion(direction, x, other.label), y)
     };
-    let first = edge.label != 0 || is_first(store.list(super::store::Direction::Forward, x), label * SPAN + y);
+    let first =
+        edge.label != 0 || is_first(store.list(super::store::Direction::Forward, x), label * SPAN + y);
     first && query.pairs.iter().all(ordered) && query.edges.iter().filter(|other| *other != edge).all(present)
 }

@@ -1,10 +1,12 @@
-//! Plans with a join: of two covered sets that share a vertex and between whose other vertices no query edge runs, then extends.
+//! Plans with a join: of two covered sets that share a vertex and between whose other vertices no query
+//! edge runs, then extends.
 
 use super::query::{Operator, Set};
 use super::search::{Found, Search};
 use super::time::{time_of, Part};
 
-/// A plan with a join is taken only where the model gives it less than this share of the best ordering's time: it knows joins less well.
+/// A plan with a join is taken only where the model gives it less than this share of the best ordering's
+/// time: it knows joins less well.
 const MARGIN: f64 = 0.8;
 
 /// Whether two results may be joined.
@@ -13,7 +15,8 @@ fn joinable(search: &Search, one: Set, other: Set) -> bool {
     one & other != 0 && left != 0 && right != 0 && !search.samples.query.joined(left, right)
 }
 
-/// The fastest plan with a join that is clearly faster than the best ordering, if there is one; `fits` says which plans may be taken.
+/// The fastest plan with a join that is clearly faster than the best ordering, if there is one; `fits` says
+/// which plans may be taken.
 pub fn best_join(search: &mut Search, fits: &mut dyn FnMut(&[Operator]) -> bool) -> Option<Found> {
     let below = MARGIN * search.best;
     let mut best: Option<Found> = None;
@@ -32,7 +35,8 @@ pub fn best_join(search: &mut Search, fits: &mut dyn FnMut(&[Operator]) -> bool)
                 (Some(built), Some(probed)) => (built, probed),
                 _ => continue,
             };
-            let table = time_of(Part::Build, search.samples.rows(build)) + time_of(Part::Probe, search.samples.rows(probe));
+            let table = time_of(Part::Build, search.samples.rows(build))
+                + time_of(Part::Probe, search.samples.rows(probe));
             if built.stage.time + probed.stage.time + table >= limit {
                 continue;
             }

@@ -1,16 +1,19 @@
-//! The plan picker. Any two accepted plans list the same rows, so whoever picks one cannot change a list, only its time and its order:
-//! this code is not proved, and what it picks goes through the engine's Check plan like anyone's.
+//! The plan picker. Any two accepted plans list the same rows, so whoever picks one cannot change a list,
+//! only its time and its order: this code is not proved, and what it picks goes through the engine's Check
+//! plan like anyone's.
 //!
-//! - `statistics`: made once a store: counts and sample edges by edge label and the labels of its ends.
-//! - `samples`, `scans`, `extension`, `ends`: for a query, how many rows each set of covered vertices has, from sample rows that are
-//!   really extended.
-//! - `time`, `coefficients`: what the works of a run take, fitted to the engine; `cache`: which rows the cache spares; `stage`: both,
-//!   operator by operator, and the need.
-//! - `search`: every ordering of one scan and extends; `joins`: plans with a join, where they are clearly faster.
+//! - `statistics`, `tables`: made once a store: counts and sample edges by edge label and the labels of its ends.
+//! - `samples`, `scans`, `extension`, `ends`: for a query, how many rows each set of covered vertices has,
+//!   from sample rows that are really extended.
+//! - `time`, `coefficients`: what the works of a run take, fitted to the engine; `cache`: which rows the
+//!   cache spares; `stage`: both, operator by operator, and the need.
+//! - `search`: every ordering of one scan and extends; `joins`: plans with a join, where they are clearly
+//!   faster.
 //! - `need`: bounds of the scratch, so that no plan is picked that may not fit while another does.
 //!
-//! The same store and query give the same plan on every machine: no clock, a fixed seed, and of the numbers with fractions only sums,
-//! products, quotients and comparisons. Nothing is read of edges whose labels the query does not name.
+//! The same store and query give the same plan on every machine: no clock, a fixed seed, and of the numbers
+//! with fractions only sums, products, quotients and comparisons. Nothing is read of edges whose labels the
+//! query does not name.
 
 mod cache;
 mod ends;
@@ -25,6 +28,7 @@ mod search;
 mod stage;
 mod statistics;
 pub mod store;
+mod tables;
 pub mod time;
 
 pub use query::{pack, unpack, Operator};
@@ -43,8 +47,8 @@ pub const MAX_WORDS: u64 = 1 << 30;
 /// Sample rows to begin with, and how many at most.
 const FIRST_SIZE: usize = 32;
 const MOST_SIZE: usize = 2_048;
-/// A sample is made as much larger as all sampling together may take: this share of the plan's time, or up to these nanoseconds a
-/// larger share, or these in any case;
+/// A sample is made as much larger as all sampling together may take: this share of the plan's time, or up
+/// to these nanoseconds a larger share, or these in any case;
 const EFFORT_SHARE: f64 = 0.02;
 const SHORT_EFFORT: f64 = 1_300_000.0;
 const SHORT_SHARE: f64 = 0.1;
@@ -56,9 +60,10 @@ const UNSEEN_EFFORT: f64 = 600_000.0;
 const LEAST_GROWTH: f64 = 2.0;
 const MOST_GROWTH: f64 = 16.0;
 /// Nanoseconds that the first search may take in any case, and that a search takes besides what it reads.
-const FREE_EFFORT: f64 = 300_000.0;
+const FREE_EFFORT: f64 = 700_000.0;
 const BASE_EFFORT: f64 = 5_000.0;
-/// Of plans within a tenth of the best time, the one with the least need is taken, where needs below this many words count alike.
+/// Of plans within a tenth of the best time, the one with the least need is taken, where needs below this
+/// many words count alike.
 const NEED_SLACK: f64 = 1.1;
 const NEED_FLOOR: f64 = 65_536.0;
 
@@ -87,8 +92,9 @@ pub struct Picked {
     pub list: u64,
 }
 
-/// The plan of a query file over a store that Load wrote, of which the statistics were made, where at most so many words of scratch
-/// may be lent. Nothing where Read query refuses the query for its length, vertices, edges or connection.
+/// The plan of a query file over a store that Load wrote, of which the statistics were made, where at most
+/// so many words of scratch may be lent. Nothing where Read query refuses the query for its length,
+/// vertices, edges or connection.
 pub fn pick(words: &[u32], statistics: &Statistics, query: &[u8], lent: u64) -> Option<Picked> {
     let store = Store::of(words)?;
     let query = Query::read(query)?;
@@ -142,8 +148,8 @@ fn has_unseen(samples: &Samples, plan: &[Operator]) -> bool {
     })
 }
 
-/// The best ordering, or one that takes at most a tenth longer and needs less. Where its need may pass what is lent, the fastest that
-/// was come upon whose need may not, or the one with the least bound.
+/// The best ordering, or one that takes at most a tenth longer and needs less. Where its need may pass what
+/// is lent, the fastest that was come upon whose need may not, or the one with the least bound.
 fn within_need(search: &mut Search, best: Found, bounds: &mut Bounds, lent: u64) -> Found {
     if lent < search.samples.fitting_words() && bounds.need(&best.plan) > lent {
         search.orderings_within(f64::MAX);
@@ -161,7 +167,8 @@ fn within_need(search: &mut Search, best: Found, bounds: &mut Bounds, lent: u64)
     search.orderings_within(NEED_SLACK);
     let all = std::mem::take(&mut search.found);
     let least = all.iter().map(|found| found.stage.need.max(NEED_FLOOR)).fold(best.stage.need, f64::min);
-    let fits = |found: &Found| found.stage.need <= least && (lent >= MAX_WORDS || bounds.need(&found.plan) <= lent);
+    let fits =
+        |found: &Found| found.stage.need <= least && (lent >= MAX_WORDS || bounds.need(&found.plan) <= lent);
     fastest(all.into_iter().filter(fits)).unwrap_or(best)
 }
 
@@ -181,7 +188,11 @@ fn described(samples: &mut Samples, plan: &[Operator]) -> Picked {
             Operator::Join => 2,
         };
         let below: f64 = pile.split_off(pile.len() - operands).iter().sum();
-        operators.push(Estimate { operator: *operator, rows: samples.rows(stage.set), time: stage.time - below });
+        operators.push(Estimate {
+            operator: *operator,
+            rows: samples.rows(stage.set),
+            time: stage.time - below,
+        });
         pile.push(stage.time);
     }
     let last = stages[stages.len() - 1];
@@ -189,7 +200,11 @@ fn described(samples: &mut Samples, plan: &[Operator]) -> Picked {
     let rows = samples.rows(last.set);
     let most = samples.fitting_words() as f64;
     let ordering = !plan.contains(&Operator::Join);
-    let scratch = if ordering { (2.0 * last.need).max(NEED_FLOOR).min(most) } else { (2.0 * last.need).max(NEED_FLOOR) };
+    let scratch = if ordering {
+        (2.0 * last.need).max(NEED_FLOOR).min(most)
+    } else {
+        (2.0 * last.need).max(NEED_FLOOR)
+    };
     Picked {
         plan: pack(plan),
         operators,

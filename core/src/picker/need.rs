@@ -1,4 +1,5 @@
-//! Bounds of the scratch that a plan may need, as request 11 states them: they hold whatever the estimates say.
+//! Bounds of the scratch that a plan may need, as request 11 states them: they hold whatever the estimates
+//! say.
 
 use super::query::{Descriptor, Operator, Query, Set};
 use super::stage::table_words;
@@ -30,7 +31,8 @@ impl<'a> Bounds<'a> {
         Bounds { store, statistics, query, longest: Vec::new() }
     }
 
-    /// Scratch words with which no run of an accepted plan is refused; the largest number where it is too large.
+    /// Scratch words with which no run of an accepted plan is refused; the largest number where it is too
+    /// large.
     pub fn need(&mut self, plan: &[Operator]) -> u64 {
         let mut pile: Vec<Bound> = Vec::new();
         for operator in plan {
@@ -50,8 +52,8 @@ impl<'a> Bounds<'a> {
         pile.last().map_or(u64::MAX, |bound| bound.need)
     }
 
-    /// The ordering with the least need, and that need. What an extend adds depends only on the set that it extends, so each set has a
-    /// least need of its own.
+    /// The ordering with the least need, and that need. What an extend adds depends only on the set that it
+    /// extends, so each set has a least need of its own.
     pub fn least_ordering(&mut self) -> (Vec<Operator>, u64) {
         let query = self.query;
         let mut least: Vec<Option<(Bound, Vec<Operator>)>> = vec![None; 1 << query.vertices()];
@@ -95,8 +97,8 @@ impl<'a> Bounds<'a> {
         Bound { set, rows: operand.rows.saturating_mul(least), need }
     }
 
-    /// The longest portion that any vertex has for a descriptor's label and direction. A list that is no longer than the longest
-    /// portion so far is passed by.
+    /// The longest portion that any vertex has for a descriptor's label and direction. A list that is no
+    /// longer than the longest portion so far is passed by.
     fn longest(&mut self, descriptor: &Descriptor) -> u64 {
         let (direction, label) = (descriptor.direction, descriptor.label);
         if let Some(known) = self.longest.iter().find(|known| (known.0, known.1) == (direction, label)) {
@@ -117,7 +119,8 @@ fn join(build: Bound, probe: Bound) -> Bound {
     let set = build.set | probe.set;
     let words = build.rows.saturating_mul(width(build.set));
     let table = words.saturating_add(table_words(build.rows));
-    let need = build.need.saturating_add(words).max(table.saturating_add(probe.need).saturating_add(width(set)));
+    let need =
+        build.need.saturating_add(words).max(table.saturating_add(probe.need).saturating_add(width(set)));
     Bound { set, rows: build.rows.saturating_mul(probe.rows), need }
 }
 
@@ -126,7 +129,8 @@ mod tests {
     use super::super::query::{Edge, Filter};
     use super::*;
 
-    /// Four vertices; edges of label 1: 0→1, 0→2, 1→2, 1→3, 2→3. Each direction's longest portion has two entries.
+    /// Four vertices; edges of label 1: 0→1, 0→2, 1→2, 1→3, 2→3. Each direction's longest portion has two
+    /// entries.
     fn words() -> Vec<u32> {
         let mut words = vec![4, 5, 0, 0, 0, 0, 0, 0, 0, 0];
         words.extend([0, 2, 4, 5, 5].iter().copied());

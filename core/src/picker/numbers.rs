@@ -1,4 +1,5 @@
-//! Numbers that come out the same on every machine: sums, products and quotients, a logarithm by integers, a fixed seed.
+//! Numbers that come out the same on every machine: sums, products and quotients, a logarithm by integers,
+//! a fixed seed.
 
 /// The logarithm to base 2 of a number above 0: exact at the powers of two, straight between them.
 pub fn log2(x: u64) -> f64 {

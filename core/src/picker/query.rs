@@ -90,14 +90,15 @@ impl Fields<'_> {
 }
 
 impl Query {
-    /// The query of a file that Read query accepts. Of a file that it refuses, nothing where vertices, edges, their ends or the
-    /// connection of the whole are at fault.
+    /// The query of a file that Read query accepts. Of a file that it refuses, nothing where vertices,
+    /// edges, their ends or the connection of the whole are at fault.
     pub fn read(file: &[u8]) -> Option<Query> {
         let mut fields = Fields { file, bit: 0 };
         let (n, m) = (fields.take(4)?, fields.take(5)?);
         let mut filters = Vec::with_capacity(n);
         for _ in 0..n {
-            let [label, first, last] = [fields.take(16)? as u32, fields.take(16)? as u32, fields.take(16)? as u32];
+            let [label, first, last] =
+                [fields.take(16)? as u32, fields.take(16)? as u32, fields.take(16)? as u32];
             filters.push(Filter { label, first, last });
         }
         let mut edges = Vec::with_capacity(m);
@@ -167,7 +168,11 @@ impl Query {
         let mut found = Vec::with_capacity(4);
         for edge in &self.edges {
             if edge.to == v && set >> edge.from & 1 == 1 {
-                found.push(Descriptor { vertex: edge.from, direction: Direction::Forward, label: edge.label });
+                found.push(Descriptor {
+                    vertex: edge.from,
+                    direction: Direction::Forward,
+                    label: edge.label,
+                });
             } else if edge.from == v && set >> edge.to & 1 == 1 {
                 found.push(Descriptor { vertex: edge.to, direction: Direction::Backward, label: edge.label });
             }
@@ -176,7 +181,8 @@ impl Query {
     }
 }
 
-/// The packed file of a plan: operator count (5 bits), then kinds (2), with an edge's index (5) or a vertex (3).
+/// The packed file of a plan: operator count (5 bits), then kinds (2), with an edge's index (5) or a vertex
+/// (3).
 pub fn pack(plan: &[Operator]) -> Vec<u8> {
     let (mut bytes, mut bits) = (Vec::new(), 0);
     let mut put = |number: usize, width: usize| {
@@ -225,8 +231,8 @@ mod tests {
     use super::*;
 
     const TRIANGLE: [u8; 25] = [
-        0x31, 0x80, 0x00, 0x00, 0x00, 0x7f, 0xff, 0x80, 0x00, 0x00, 0x00, 0x7f, 0xff, 0x80, 0x00, 0x00, 0x00, 0x7f, 0xff,
-        0x82, 0x02, 0x10, 0x09, 0x40, 0x20,
+        0x31, 0x80, 0x00, 0x00, 0x00, 0x7f, 0xff, 0x80, 0x00, 0x00, 0x00, 0x7f, 0xff, 0x80, 0x00, 0x00, 0x00,
+        0x7f, 0xff, 0x82, 0x02, 0x10, 0x09, 0x40, 0x20,
     ];
 
     #[test]
@@ -251,7 +257,8 @@ mod tests {
     fn plans_are_packed() {
         let plan = [Operator::Scan(0), Operator::Extend(2)];
         assert_eq!(pack(&plan), [0x10, 0x05, 0x00]);
-        let plan = [Operator::Scan(2), Operator::Extend(0), Operator::Scan(2), Operator::Extend(3), Operator::Join];
+        let plan =
+            [Operator::Scan(2), Operator::Extend(0), Operator::Scan(2), Operator::Extend(3), Operator::Join];
         assert_eq!(unpack(&pack(&plan)).as_deref(), Some(&plan[..]));
         assert_eq!(unpack(&[0x10]), None);
     }

@@ -1,4 +1,5 @@
-//! Estimates by samples: how many rows each set of covered query vertices has, some of those rows, and what an extend of them takes.
+//! Estimates by samples: how many rows each set of covered query vertices has, some of those rows, and what
+//! an extend of them takes.
 
 use super::ends::Ends;
 use super::extension::{Extending, Row};
@@ -23,14 +24,15 @@ pub struct Sample {
     /// The number of rows is exact; and the sample is all of them.
     pub exact: bool,
     pub whole: bool,
-    /// How many rows that were seen one by one the estimate rests on; and together with those of other ways to the same set.
+    /// How many rows that were seen one by one the estimate rests on; and together with those of other ways
+    /// to the same set.
     pub support: f64,
     pub weight: f64,
 }
 
 impl Sample {
-    /// Takes in what another way to the same set gave: the mean of the estimates by what they rest on, and its sample where that rests
-    /// on twice as much. Answers whether the sample was taken.
+    /// Takes in what another way to the same set gave: the mean of the estimates by what they rest on, and
+    /// its sample where that rests on twice as much. Answers whether the sample was taken.
     fn merge(&mut self, other: Sample) -> bool {
         if self.exact {
             return false;
@@ -60,10 +62,12 @@ pub struct Extension {
     pub time: f64,
     /// The share of rows that have a new one.
     pub hit: f64,
-    /// The set of new vertices before those are struck that the row has or its pairs forbid: its length, and the longest seen.
+    /// The set of new vertices before those are struck that the row has or its pairs forbid: its length,
+    /// and the longest seen.
     pub set: f64,
     pub longest: f64,
-    /// Time and hits as means over the different vertices of an end, where the set is two ends: of its lower and its higher vertex.
+    /// Time and hits as means over the different vertices of an end, where the set is two ends: of its
+    /// lower and its higher vertex.
     pub by_end: [(f64, f64); 2],
 }
 
@@ -108,7 +112,8 @@ impl<'a> Samples<'a> {
         self.fitting[v].len() as f64
     }
 
-    /// Scratch words that are enough for every ordering, by the sums of request 10: a set of new vertices is within those that fit.
+    /// Scratch words that are enough for every ordering, by the sums of request 10: a set of new vertices
+    /// is within those that fit.
     pub fn fitting_words(&self) -> u64 {
         let n = self.query.vertices() as u64;
         n * (n + 1) / 2 + self.fitting.iter().map(|fitting| fitting.len() as u64).sum::<u64>()
@@ -166,7 +171,8 @@ impl<'a> Samples<'a> {
         }
         let extending = Extending::new(self.query, set, v);
         let mut ends = Ends::new(self.query, set);
-        let (mut found, mut parts) = (Vec::with_capacity(4 * self.size), Vec::with_capacity(operand.sample.len()));
+        let (mut found, mut parts) =
+            (Vec::with_capacity(4 * self.size), Vec::with_capacity(operand.sample.len()));
         let (mut time, mut total, mut hits, mut sets, mut longest) = (0.0, 0.0, 0.0, 0.0, 0.0f64);
         let mut all = true;
         for row in &operand.sample {
@@ -182,14 +188,16 @@ impl<'a> Samples<'a> {
             let row_time = work.time();
             time += row_time;
             ends.put(&self.store, row, row_time, hit);
-            let entries = [Part::Entry, Part::Walk, Part::Mark].iter().map(|&part| work.0[part as usize]).sum::<f64>();
+            let entries =
+                [Part::Entry, Part::Walk, Part::Mark].iter().map(|&part| work.0[part as usize]).sum::<f64>();
             self.effort += extending.descriptors.len() as f64 * (60.0 + 18.0 * entries.min(most as f64));
         }
         let count = operand.sample.len() as f64;
         let rows = if found.is_empty() && !(operand.whole && all) { UNSEEN / count } else { total / count };
         let hit = if hits == 0.0 { rows.min(1.0) } else { hits / count };
         let time = time / count;
-        let extension = Extension { rows, time, hit, set: sets / count, longest, by_end: ends.means(time, hit) };
+        let extension =
+            Extension { rows, time, hit, set: sets / count, longest, by_end: ends.means(time, hit) };
         let exact = operand.whole && all;
         let whole = exact && found.len() <= self.size;
         let support = operand.support.min(hits);
@@ -197,9 +205,16 @@ impl<'a> Samples<'a> {
         (extension, Sample { rows: operand.rows * rows, sample, exact, whole, support, weight: support })
     }
 
-    /// Sample rows evenly over the found ones; `parts` has for each row where its vertices begin and end, and how many rows there are
-    /// up to its last.
-    fn taken(&mut self, operand: &Sample, v: usize, found: &[u32], parts: &[(usize, usize, f64)], all: bool) -> Vec<Row> {
+    /// Sample rows evenly over the found ones; `parts` has for each row where its vertices begin and end,
+    /// and how many rows there are up to its last.
+    fn taken(
+        &mut self,
+        operand: &Sample,
+        v: usize,
+        found: &[u32],
+        parts: &[(usize, usize, f64)],
+        all: bool,
+    ) -> Vec<Row> {
         let mut rows = Vec::with_capacity(found.len().min(self.size));
         let mut put = |i: usize, x: u32| {
             let mut row = operand.sample[i];
@@ -236,8 +251,10 @@ impl<'a> Samples<'a> {
         let descriptors = self.query.descriptors(set, v);
         let filters = &self.query.filters;
         let edges = |d: &Descriptor| self.statistics.edges_at(d.direction, d.label, filters[d.vertex].label);
-        let lengths: Vec<f64> =
-            descriptors.iter().map(|d| edges(d) / self.statistics.labelled(filters[d.vertex].label).max(1.0)).collect();
+        let lengths: Vec<f64> = descriptors
+            .iter()
+            .map(|d| edges(d) / self.statistics.labelled(filters[d.vertex].label).max(1.0))
+            .collect();
         let one = (0..lengths.len()).fold(0, |one, j| if lengths[j] < lengths[one] { j } else { one });
         let shortest = &descriptors[one];
         let (near, new) = (filters[shortest.vertex].label, filters[v].label);

@@ -36,8 +36,8 @@ impl Samples<'_> {
         scan
     }
 
-    /// The rows of an edge's ends: from sample edges; and where too few of those are rows, from all vertices that fit an end, if they are
-    /// few, or from more sample edges.
+    /// The rows of an edge's ends: from sample edges; and where too few of those are rows, from all
+    /// vertices that fit an end, if they are few, or from more sample edges.
     fn scan_sample(&mut self, edge: &Edge) -> Sample {
         let sample = self.pool_sample(edge, TRIES);
         if sample.exact || 2.0 * sample.support >= self.size as f64 {
@@ -88,7 +88,8 @@ impl Samples<'_> {
                             let mut row = [SPAN - 1; MAX_VERTICES];
                             row[edge.from] = ends / SPAN;
                             row[edge.to] = ends % SPAN;
-                            let row = Some(row).filter(|row| is_scan_row(self.query, &self.store, edge, row, label));
+                            let row = Some(row)
+                                .filter(|row| is_scan_row(self.query, &self.store, edge, row, label));
                             self.effort += 60.0;
                             support += if row.is_some() { 1.0 } else { 0.0 };
                             row
@@ -108,8 +109,8 @@ impl Samples<'_> {
         Sample { rows: estimate, sample: thinned(rows, self.size), exact, whole, support, weight: support }
     }
 
-    /// The work of a scan: every vertex is tested, and from each source that fits the portions of all edges between the ends are
-    /// intersected.
+    /// The work of a scan: every vertex is tested, and from each source that fits the portions of all edges
+    /// between the ends are intersected.
     fn scan_work(&self, edge: &Edge) -> Work {
         let label = self.query.filters[edge.from].label;
         let fitting = self.fitting(edge.from);
@@ -132,8 +133,8 @@ impl Samples<'_> {
         work
     }
 
-    /// The work at the sources of so many entries, but for what is counted for each source that fits: that at the sources of the
-    /// sample, each counted once however many of the entries are its.
+    /// The work at the sources of so many entries, but for what is counted for each source that fits: that
+    /// at the sources of the sample, each counted once however many of the entries are its.
     fn put_source_work(&self, edge: &Edge, extending: &Extending, entries: f64, work: &mut Work) {
         let sample = match &self.samples[edge.ends() as usize] {
             Some(sample) if !sample.sample.is_empty() => sample,
@@ -157,8 +158,10 @@ impl Samples<'_> {
             Some(sample) if !sample.sample.is_empty() => sample,
             _ => return self.rows(edge.ends()).min(0.5 * self.fitting(edge.from)),
         };
-        let kept = (sample.rows / self.statistics.edges_at(Direction::Forward, edge.label, label).max(1.0)).min(1.0);
-        let degree = |row: &Row| self.store.portion(Direction::Forward, row[edge.from], edge.label).len() as f64;
+        let kept =
+            (sample.rows / self.statistics.edges_at(Direction::Forward, edge.label, label).max(1.0)).min(1.0);
+        let degree =
+            |row: &Row| self.store.portion(Direction::Forward, row[edge.from], edge.label).len() as f64;
         let sum: f64 = sample.sample.iter().map(|row| 1.0 / (kept * degree(row)).max(1.0)).sum();
         (sample.rows * sum / sample.sample.len() as f64).min(self.fitting(edge.from))
     }

@@ -1,5 +1,6 @@
-//! The search: every ordering of one scan and extends, depth first, the cheapest step first, cut where it takes longer than the best
-//! so far. The cache makes a step's time depend on the order of what is covered, so sets alone are not enough.
+//! The search: every ordering of one scan and extends, depth first, the cheapest step first, cut where it
+//! takes longer than the best so far. The cache makes a step's time depend on the order of what is covered,
+//! so sets alone are not enough.
 
 use super::query::{Operator, Set};
 use super::samples::Samples;
@@ -45,8 +46,8 @@ impl<'s, 'a> Search<'s, 'a> {
         }
     }
 
-    /// The best ordering. Estimates get better while the search goes on, so it is made again from the first one's best plan, by the
-    /// estimates as they are then.
+    /// The best ordering. Estimates get better while the search goes on, so it is made again from the first
+    /// one's best plan, by the estimates as they are then.
     pub fn best_ordering(&mut self) -> Option<Found> {
         self.orderings();
         let first = self.found.pop()?;
@@ -95,7 +96,11 @@ impl<'s, 'a> Search<'s, 'a> {
     }
 
     fn too_long(&self, time: f64) -> bool {
-        if self.slack > 1.0 { time > self.slack * self.best } else { time >= self.best }
+        if self.slack > 1.0 {
+            time > self.slack * self.best
+        } else {
+            time >= self.best
+        }
     }
 
     fn go_on(&mut self, stage: Stage, operator: Operator) {
@@ -146,7 +151,8 @@ impl<'s, 'a> Search<'s, 'a> {
 
     /// The sets that were covered below a time, ascending.
     pub fn covered(&self, below: f64) -> Vec<Set> {
-        let fast = |set: &Set| self.stages[*set as usize].as_ref().map_or(false, |found| found.stage.time < below);
+        let fast =
+            |set: &Set| self.stages[*set as usize].as_ref().map_or(false, |found| found.stage.time < below);
         (0..self.stages.len() as Set).filter(fast).collect()
     }
 }

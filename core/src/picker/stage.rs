@@ -1,4 +1,5 @@
-//! What a part of a plan has covered, and what it took: the model of time, cache and need, operator by operator.
+//! What a part of a plan has covered, and what it took: the model of time, cache and need, operator by
+//! operator.
 
 use super::cache::{Prefix, Prefixes};
 use super::query::{Operator, Set};
@@ -22,7 +23,8 @@ impl Stage {
     }
 }
 
-/// The words of a join's table of build rows: a link for each and as many heads as the smallest power of two not below their number.
+/// The words of a join's table of build rows: a link for each and as many heads as the smallest power of
+/// two not below their number.
 pub fn table_words(build_rows: u64) -> u64 {
     build_rows.saturating_add(build_rows.max(1).checked_next_power_of_two().unwrap_or(u64::MAX))
 }
@@ -98,7 +100,8 @@ impl Samples<'_> {
         Stage { set, time: build.time + probe.time + took, need, prefixes }
     }
 
-    /// The stages of an accepted plan, one for each operator; each time is that of all operators that its result is made of.
+    /// The stages of an accepted plan, one for each operator; each time is that of all operators that its
+    /// result is made of.
     pub fn stages(&mut self, plan: &[Operator]) -> Vec<Stage> {
         let (mut pile, mut all): (Vec<Stage>, Vec<Stage>) = (Vec::new(), Vec::new());
         for operator in plan {
@@ -125,7 +128,8 @@ impl Samples<'_> {
         all
     }
 
-    /// Makes the extensions of a set by every vertex beside it: later ones are asked for what a prefix says of them.
+    /// Makes the extensions of a set by every vertex beside it: later ones are asked for what a prefix says
+    /// of them.
     pub fn extend_all(&mut self, set: Set) {
         let query = self.query;
         query.next(set).for_each(|v| self.extend(set, v));

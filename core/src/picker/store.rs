@@ -12,7 +12,8 @@ pub enum Direction {
     Backward = 1,
 }
 
-/// The parts of a store: words that Load wrote. Others may make the picker panic, and never make it read past them.
+/// The parts of a store: words that Load wrote. Others may make the picker panic, and never make it read
+/// past them.
 #[derive(Clone, Copy)]
 pub struct Store<'s> {
     pub labels: &'s [u32],
@@ -22,8 +23,8 @@ pub struct Store<'s> {
 }
 
 impl<'s> Store<'s> {
-    /// The parts of N, M, the labels, the days, N + 1 forward offsets, M forward entries, and the same backward; nothing where words
-    /// are missing.
+    /// The parts of N, M, the labels, the days, N + 1 forward offsets, M forward entries, and the same
+    /// backward; nothing where words are missing.
     pub fn of(words: &'s [u32]) -> Option<Store<'s>> {
         let n = *words.first()? as usize;
         let m = *words.get(1)? as usize;
@@ -119,7 +120,8 @@ pub fn leads_to(portion: &[u32], x: u32) -> bool {
     false
 }
 
-/// Whether an entry of a portion is the first of those to its neighbour, which may be there once for each label.
+/// Whether an entry of a portion is the first of those to its neighbour, which may be there once for each
+/// label.
 #[inline]
 pub fn is_first(portion: &[u32], entry: u32) -> bool {
     let key = entry / SPAN * SPAN;

@@ -102,7 +102,12 @@ fn sorted(rows: impl Iterator<Item = impl AsRef<[u32]>>) -> Vec<Vec<u32>> {
 /// The picked plan passes Check plan and lists what the drawn plan lists. Answers how many rows that are.
 pub fn same_list(store: &Store, query: &Query, picked: &Picked, buffers: &mut Buffers) -> usize {
     let file = packed(query);
-    assert_eq!(check_plan(&file, &picked.plan), Ok(picked.operators.len()), "{query:?}: {:?}", picked.operators);
+    assert_eq!(
+        check_plan(&file, &picked.plan),
+        Ok(picked.operators.len()),
+        "{query:?}: {:?}",
+        picked.operators
+    );
     let drawn = store.run_drawn(&file, Cache::On, buffers).expect("a run");
     let drawn = sorted(drawn.rows());
     let run = store.run_growing(&file, &picked.plan, Cache::On, buffers).expect("a run");
