@@ -16,7 +16,7 @@ const ALL_ORDERINGS: usize = 5;
 /// Nanoseconds: patterns whose drawn and best plans take longer by the estimate are passed by.
 const LONG: f64 = 4e8;
 /// Orderings are passed by that take so many times the best time by the estimate, and so many nanoseconds.
-const HOPELESS: f64 = 10.0;
+const HOPELESS: f64 = 5.0;
 const NOT_SHORT: f64 = 1e7;
 /// Plans are run again that take at most so much longer than the best: one slow minute is not taken for a
 /// slow plan.

@@ -49,8 +49,8 @@ const FIRST_SIZE: usize = 32;
 const MOST_SIZE: usize = 2_048;
 /// A sample is made as much larger as all sampling together may take: this share of the plan's time, or up
 /// to these nanoseconds a larger share, or these in any case;
-const EFFORT_SHARE: f64 = 0.02;
-const SHORT_EFFORT: f64 = 1_300_000.0;
+const EFFORT_SHARE: f64 = 0.01;
+const SHORT_EFFORT: f64 = 1_000_000.0;
 const SHORT_SHARE: f64 = 0.1;
 const LEAST_EFFORT: f64 = 70_000.0;
 /// and where a part of the plan has no sample row at all, up to so many rows and nanoseconds.
