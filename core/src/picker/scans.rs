@@ -84,7 +84,7 @@ impl Samples<'_> {
                     let row = match last {
                         Some((before, row)) if before == i => row,
                         _ => {
-                            let ends = known.pool[(triple.pool + i) as usize];
+                            let ends = statistics.pool[(triple.pool + i) as usize];
                             let mut row = [SPAN - 1; MAX_VERTICES];
                             row[edge.from] = ends / SPAN;
                             row[edge.to] = ends % SPAN;

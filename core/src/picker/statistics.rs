@@ -7,7 +7,6 @@ use super::store::{Direction, Store};
 use super::tables::Tables;
 
 pub const EDGE_LABELS: usize = 256;
-pub const VERTEX_LABELS: usize = 65_536;
 
 /// The edges of one label between two classes of vertex labels.
 #[derive(Clone, Copy, Debug)]
@@ -42,8 +41,6 @@ pub struct EdgeLabel {
     /// label.
     pub totals: [Vec<u32>; 2],
     pub vertices: Vec<u32>,
-    /// Sample edges, as source × 65,536 + target.
-    pub pool: Vec<u32>,
 }
 
 /// Statistics of a store.
@@ -54,6 +51,8 @@ pub struct Statistics {
     by_label: Vec<u16>,
     labels: Vec<VertexLabel>,
     edge_labels: Vec<EdgeLabel>,
+    /// Sample edges, as source × 65,536 + target.
+    pub pool: Vec<u32>,
 }
 
 /// The class of a label of a rank: the most frequent have one of their own, and a quarter of the classes is
@@ -68,11 +67,12 @@ pub fn class_of(rank: usize, labels: usize, classes: usize) -> usize {
 
 /// Numbers below `end` as a stable counting sort by a key leaves them.
 fn sorted(order: &[u16], key: &[u32]) -> Vec<u16> {
-    let mut starts = vec![0u32; VERTEX_LABELS + 1];
+    let most = key.iter().copied().max().unwrap_or(0) as usize;
+    let mut starts = vec![0u32; most + 2];
     for &k in key {
         starts[k as usize + 1] += 1;
     }
-    for k in 0..VERTEX_LABELS {
+    for k in 0..most {
         starts[k + 1] += starts[k];
     }
     let mut out = vec![0; order.len()];
@@ -110,8 +110,8 @@ impl Statistics {
         let by_day = sorted(&numbers, store.days);
         let by_label = sorted(&by_day, store.labels);
         let labels = vertex_labels(&store, &by_label);
-        let edge_labels = Tables::of(&store, &labels).edge_labels();
-        Some(Statistics { by_day, by_label, labels, edge_labels })
+        let (edge_labels, pool) = Tables::of(&store, &labels).finished();
+        Some(Statistics { by_day, by_label, labels, edge_labels, pool })
     }
 
     fn vertex_label(&self, label: u32) -> Option<&VertexLabel> {
