@@ -4,7 +4,7 @@ use picker_bench::engine::{now, Engine, Fitted};
 use picker_bench::patterns::{orderings, packed, pattern, ANY};
 use picker_bench::picker::query::{Edge, Filter, Operator, Query};
 use picker_bench::picker::store::Store as Parts;
-use picker_bench::picker::{estimate, pack, unpack, Picked, Statistics};
+use picker_bench::picker::{estimate, pack, pick, unpack, Picked, Statistics, MAX_WORDS};
 use picker_bench::random::Random;
 use std::ops::RangeInclusive;
 use trace::Store;
@@ -13,8 +13,8 @@ use trace::Store;
 const MOST_WORDS: usize = 1 << 27;
 /// Of larger patterns only the drawn plan is run.
 const ALL_ORDERINGS: usize = 5;
-/// Nanoseconds: patterns whose drawn and best plans take longer by the estimate are passed by.
-const LONG: f64 = 4e8;
+/// Nanoseconds: patterns whose picked plan takes longer by the estimate are passed by.
+const LONG: f64 = 2e8;
 /// Orderings are passed by that take so many times the best time by the estimate, and so many nanoseconds.
 const HOPELESS: f64 = 5.0;
 const NOT_SHORT: f64 = 1e7;
@@ -134,15 +134,15 @@ impl Bench {
 
     fn recorded(&mut self, query: Query) -> Option<Recorded> {
         let file = packed(&query);
+        if pick(&self.words, &self.statistics, &file, MAX_WORDS)?.time > LONG {
+            return None;
+        }
         let drawn = unpack(&self.engine.store.draw_plan(&file).expect("a drawn plan")).expect("operators");
         let plans = if query.vertices() <= ALL_ORDERINGS { orderings(&query) } else { vec![drawn.clone()] };
         let mut recorded =
             Recorded { query, file, drawn, timed: Vec::new(), skipped: 0, rows: 0, check_time: f64::MAX };
         let thoughts: Vec<Picked> = plans.iter().map(|plan| self.estimate(&recorded, plan)).collect();
         let best = thoughts.iter().map(|thought| thought.time).fold(f64::MAX, f64::min);
-        if best > LONG {
-            return None;
-        }
         let mut fitted: Vec<(Fitted, f64, Vec<Operator>)> = Vec::new();
         for (plan, thought) in plans.into_iter().zip(&thoughts) {
             let hopeless = thought.time > (HOPELESS * best).max(NOT_SHORT) && plan != recorded.drawn;

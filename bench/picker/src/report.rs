@@ -121,6 +121,8 @@ pub fn percentiles(name: &str, bench: &Bench, found: &[Measured]) -> String {
         mine / least,
         its / least
     );
+    let enough = found.iter().filter(|m| m.picked.list as usize >= m.recorded.rows * m.query().vertices()).count();
+    let _ = writeln!(out, "The first list was long enough for {enough} of {} patterns.", found.len());
     let (statistics, check) = (bench.statistics_time / 1e6, bench.check_time / 1e6);
     let _ = writeln!(out, "Statistics {statistics:.2} ms, store check {check:.2} ms.");
     out
