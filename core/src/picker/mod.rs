@@ -2,13 +2,14 @@
 //! only its time and its order: this code is not proved, and what it picks goes through the engine's Check
 //! plan like anyone's.
 //!
-//! - `statistics`, `tables`: made once a store: counts and sample edges by edge label and the labels of its ends.
+//! - `statistics`, `tables`: made once a store: counts and sample edges by edge label and the labels of its
+//!   ends.
 //! - `samples`, `scans`, `extension`, `ends`: for a query, how many rows each set of covered vertices has,
 //!   from sample rows that are really extended.
 //! - `time`, `coefficients`: what the works of a run take, fitted to the engine; `cache`: which rows the
 //!   cache spares; `stage`: both, operator by operator, and the need.
-//! - `search`: every ordering of one scan and extends; `joins`: plans with a join, where they are clearly
-//!   faster.
+//! - `effort`: how large the samples are; `search`: every ordering of one scan and extends; `joins`: plans
+//!   with a join, where they are clearly faster.
 //! - `need`: bounds of the scratch, so that no plan is picked that may not fit while another does.
 //!
 //! The same store and query give the same plan on every machine: no clock, a fixed seed, and of the numbers
@@ -16,6 +17,7 @@
 //! query does not name.
 
 mod cache;
+mod effort;
 mod ends;
 pub mod extension;
 mod joins;
@@ -34,6 +36,7 @@ pub mod time;
 pub use query::{pack, unpack, Operator};
 pub use statistics::Statistics;
 
+use effort::{Effort, UNSEEN_SIZE};
 use need::Bounds;
 use query::Query;
 use samples::Samples;
@@ -44,24 +47,6 @@ use time::{time_of, Part};
 /// The most words that a run may be lent as scratch.
 pub const MAX_WORDS: u64 = 1 << 30;
 
-/// Sample rows to begin with, and how many at most.
-const FIRST_SIZE: usize = 32;
-const MOST_SIZE: usize = 2_048;
-/// A sample is made as much larger as all sampling together may take: this share of the plan's time, or up
-/// to these nanoseconds a larger share, or these in any case;
-const EFFORT_SHARE: f64 = 0.01;
-const SHORT_EFFORT: f64 = 1_000_000.0;
-const SHORT_SHARE: f64 = 0.1;
-const LEAST_EFFORT: f64 = 70_000.0;
-/// and where a part of the plan has no sample row at all, up to so many rows and nanoseconds.
-const UNSEEN_SIZE: usize = 512;
-const UNSEEN_EFFORT: f64 = 600_000.0;
-/// But by no less than this, and by no more at a time.
-const LEAST_GROWTH: f64 = 2.0;
-const MOST_GROWTH: f64 = 16.0;
-/// Nanoseconds that the first search may take in any case, and that a search takes besides what it reads.
-const FREE_EFFORT: f64 = 700_000.0;
-const BASE_EFFORT: f64 = 5_000.0;
 /// Of plans within a tenth of the best time, the one with the least need is taken, where needs below this
 /// many words count alike.
 const NEED_SLACK: f64 = 1.1;
@@ -99,19 +84,13 @@ pub fn pick(words: &[u32], statistics: &Statistics, query: &[u8], lent: u64) -> 
     let store = Store::of(words)?;
     let query = Query::read(query)?;
     let mut bounds = Bounds::new(store, statistics, &query);
-    let (mut size, mut spent, mut limit) = (FIRST_SIZE, 0.0, FREE_EFFORT);
+    let mut effort = Effort::first_round();
     loop {
-        let mut samples = Samples::new(store, statistics, &query, size);
-        let mut search = Search::new(&mut samples, limit);
+        let mut samples = Samples::new(store, statistics, &query, effort.size);
+        let mut search = Search::new(&mut samples, effort.limit);
         let best = search.best_ordering()?;
-        let effort = search.samples.effort + BASE_EFFORT;
-        spent += effort;
-        let unseen = size < UNSEEN_SIZE && has_unseen(search.samples, &best.plan);
-        let allowed = allowance(best.stage.time).max(if unseen { UNSEEN_EFFORT } else { 0.0 });
-        let growth = ((allowed - spent) / effort).min(MOST_GROWTH);
-        if size < MOST_SIZE && growth >= LEAST_GROWTH {
-            size = ((growth * size as f64) as usize).min(MOST_SIZE);
-            limit = FREE_EFFORT.max(allowed - spent);
+        let unseen = has_unseen(search.samples, &best.plan);
+        if effort.next_round(search.samples.effort, best.stage.time, unseen) {
             continue;
         }
         let ordering = within_need(&mut search, best, &mut bounds, lent);
@@ -120,11 +99,6 @@ pub fn pick(words: &[u32], statistics: &Statistics, query: &[u8], lent: u64) -> 
         let plan = joined.unwrap_or(ordering).plan;
         return Some(described(&mut samples, &plan));
     }
-}
-
-/// How long a pick may take for a plan of a time.
-fn allowance(time: f64) -> f64 {
-    (EFFORT_SHARE * time).max((SHORT_SHARE * time).min(SHORT_EFFORT)).max(LEAST_EFFORT)
 }
 
 /// The estimates of any accepted plan, for showing it beside the picked one.
