@@ -28,7 +28,9 @@ fn main() {
         ["record", name, seed, count, least, most, path] => {
             let mut bench = record::Bench::new(&graph(name));
             let sizes = number(least) as usize..=number(most) as usize;
-            let all = bench.record(&mut Random::new(number(seed)), number(count) as usize, sizes);
+            let seconds = std::env::var("SECONDS_EACH").map_or(600, |text| number(&text));
+            let (mut random, most) = (Random::new(number(seed)), 1e9 * seconds as f64);
+            let all = bench.record(&mut random, number(count) as usize, sizes, most);
             std::fs::write(path, record::to_text(&bench, &all)).expect("the record is written");
         }
         ["judge", name, path, ref table @ ..] => {

@@ -110,18 +110,19 @@ impl Bench {
         estimate(&self.words, &self.statistics, &recorded.file, &pack(plan)).expect("an accepted plan")
     }
 
-    /// Random patterns, recorded.
+    /// Random patterns, recorded; fewer where that takes more than so many nanoseconds of processor time.
     pub fn record(
         &mut self,
         random: &mut Random,
         count: usize,
         sizes: RangeInclusive<usize>,
+        most: f64,
     ) -> Vec<Recorded> {
         let words = self.words.clone();
         let parts = Parts::of(&words).expect("a store");
         let mut all = Vec::new();
         for _ in 0..20 * count {
-            if all.len() == count {
+            if all.len() == count || now() > most {
                 break;
             }
             let n = sizes.start() + random.below(sizes.end() - sizes.start() + 1);
