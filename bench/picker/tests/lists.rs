@@ -39,5 +39,5 @@ fn picked_plans_list_what_drawn_plans_list() {
         }
     }
     println!("{rows} rows, {with_rows} queries with rows, {with_a_join} plans with a join");
-    assert!(with_rows > 4_000, "{with_rows} queries have rows");
+    assert!(with_rows > 4_000 && with_a_join > 10, "{with_rows} queries have rows, {with_a_join} plans a join");
 }
