@@ -8,17 +8,17 @@ const MOST_SIZE: usize = 2_048;
 const SHARE: f64 = 0.01;
 /// or a larger share, up to so much,
 const SHORT_SHARE: f64 = 0.1;
-const SHORT: f64 = 1_000_000.0;
+const SHORT: f64 = 1_200_000.0;
 /// or in any case so much,
-const LEAST: f64 = 70_000.0;
+const LEAST: f64 = 90_000.0;
 /// or so much while a part of the plan has no sample row at all and a sample has fewer rows than this.
-const UNSEEN: f64 = 600_000.0;
+const UNSEEN: f64 = 800_000.0;
 pub const UNSEEN_SIZE: usize = 512;
 /// A sample is made larger by no less than this, and by no more at a time.
 const LEAST_GROWTH: f64 = 2.0;
 const MOST_GROWTH: f64 = 16.0;
 /// What a search may take until it has gone through all that is worth it, and what it takes besides sampling.
-const SEARCH: f64 = 700_000.0;
+const SEARCH: f64 = 900_000.0;
 const BASE: f64 = 5_000.0;
 
 /// The rounds of a pick, each with a larger sample than the one before.
@@ -47,7 +47,7 @@ impl Effort {
             return false;
         }
         self.size = ((growth * self.size as f64) as usize).min(MOST_SIZE);
-        self.limit = SEARCH.max(allowed - self.spent);
+        self.limit = allowed - self.spent;
         true
     }
 }

@@ -10,6 +10,7 @@
 //!   cache spares; `stage`: both, operator by operator, and the need.
 //! - `effort`: how large the samples are; `search`: every ordering of one scan and extends; `joins`: plans
 //!   with a join, where they are clearly faster.
+//! - `drawn`: the engine's own rule, against which a pick is held.
 //! - `need`: bounds of the scratch, so that no plan is picked that may not fit while another does.
 //!
 //! The same store and query give the same plan on every machine: no clock, a fixed seed, and of the numbers
@@ -17,6 +18,7 @@
 //! query does not name.
 
 mod cache;
+pub mod drawn;
 mod effort;
 mod ends;
 pub mod extension;
@@ -84,11 +86,12 @@ pub fn pick(words: &[u32], statistics: &Statistics, query: &[u8], lent: u64) -> 
     let store = Store::of(words)?;
     let query = Query::read(query)?;
     let mut bounds = Bounds::new(store, statistics, &query);
+    let drawn = drawn::drawn(&query, statistics);
     let mut effort = Effort::first_round();
     loop {
         let mut samples = Samples::new(store, statistics, &query, effort.size);
         let mut search = Search::new(&mut samples, effort.limit);
-        let best = search.best_ordering()?;
+        let best = search.best_ordering(&drawn)?;
         let unseen = has_unseen(search.samples, &best.plan);
         if effort.next_round(search.samples.effort, best.stage.time, unseen) {
             continue;

@@ -190,7 +190,7 @@ impl<'a> Samples<'a> {
             ends.put(&self.store, row, row_time, hit);
             let entries =
                 [Part::Entry, Part::Walk, Part::Mark].iter().map(|&part| work.0[part as usize]).sum::<f64>();
-            self.effort += extending.descriptors.len() as f64 * (60.0 + 18.0 * entries.min(most as f64));
+            self.effort += extending.descriptors.len() as f64 * (90.0 + 25.0 * entries.min(most as f64));
         }
         let count = operand.sample.len() as f64;
         let rows = if found.is_empty() && !(operand.whole && all) { UNSEEN / count } else { total / count };

@@ -90,7 +90,7 @@ impl Samples<'_> {
                             row[edge.to] = ends % SPAN;
                             let row = Some(row)
                                 .filter(|row| is_scan_row(self.query, &self.store, edge, row, label));
-                            self.effort += 60.0;
+                            self.effort += 90.0;
                             support += if row.is_some() { 1.0 } else { 0.0 };
                             row
                         }

@@ -7,7 +7,11 @@ use super::samples::Samples;
 use super::stage::Stage;
 
 /// Sets that are gone on from, at most.
-const MOST_NODES: usize = 20_000;
+const MOST_NODES: usize = 3_000;
+
+/// A plan that is known is taken where it takes up to so many times the best time, by the vertices of the query, 2 to
+/// 8: the longer a plan, the less is known of its time.
+const KNOWN_PREFERRED: [f64; 7] = [1.0, 1.02, 1.02, 1.02, 1.25, 1.25, 1.25];
 
 /// A plan of the search: what it takes, and its operators.
 #[derive(Clone, Debug)]
@@ -46,17 +50,29 @@ impl<'s, 'a> Search<'s, 'a> {
         }
     }
 
-    /// The best ordering. Estimates get better while the search goes on, so it is made again from the first
-    /// one's best plan, by the estimates as they are then.
-    pub fn best_ordering(&mut self) -> Option<Found> {
-        self.orderings();
-        let first = self.found.pop()?;
-        self.stages.iter_mut().for_each(|stage| *stage = None);
-        self.nodes = 0;
-        let stage = *self.samples.stages(&first.plan).last()?;
-        self.best = stage.time;
-        self.orderings();
-        Some(self.found.pop().unwrap_or(Found { stage, plan: first.plan }))
+    /// The best ordering, beginning with one that is known. Estimates get better while the search goes on, so it is
+    /// made again from the first one's best plan, by the estimates as they are then.
+    pub fn best_ordering(&mut self, known: &[Operator]) -> Option<Found> {
+        let mut best = self.described(known)?;
+        for _ in 0..2 {
+            self.best = best.stage.time;
+            self.nodes = 0;
+            self.stages.iter_mut().for_each(|stage| *stage = None);
+            self.orderings();
+            let found = self.found.pop().unwrap_or(best);
+            best = self.described(&found.plan)?;
+        }
+        let known = self.described(known)?;
+        if known.stage.time <= KNOWN_PREFERRED[self.samples.query.vertices() - 2] * best.stage.time {
+            return Some(known);
+        }
+        Some(best)
+    }
+
+    /// A plan by the estimates as they are now.
+    fn described(&mut self, plan: &[Operator]) -> Option<Found> {
+        let stage = *self.samples.stages(plan).last()?;
+        Some(Found { stage, plan: plan.to_vec() })
     }
 
     /// All orderings.
@@ -129,12 +145,16 @@ impl<'s, 'a> Search<'s, 'a> {
         }
         self.note(stage);
         self.nodes += 1;
-        if self.nodes > MOST_NODES || (self.is_spent() && self.best < f64::MAX) {
+        if self.nodes > MOST_NODES {
             return;
         }
-        self.samples.extend_all(stage.set);
+        // Once sampling took all that it may, the search goes on by what is known.
+        if !self.is_spent() || self.best == f64::MAX {
+            self.samples.extend_all(stage.set);
+        }
+        let known = |v: &usize| self.samples.extension(stage.set, *v).is_some();
         let mut steps: Vec<(Stage, usize)> =
-            query.next(stage.set).map(|v| (self.samples.extended_by(&stage, v), v)).collect();
+            query.next(stage.set).filter(known).map(|v| (self.samples.extended_by(&stage, v), v)).collect();
         steps.sort_by(|a, b| a.0.time.total_cmp(&b.0.time).then(a.1.cmp(&b.1)));
         for (next, v) in steps {
             if self.too_long(next.time) {

@@ -4,7 +4,8 @@
 use picker_bench::graphs::Graph;
 use picker_bench::patterns::{packed, ANY};
 use picker_bench::picker::query::{Edge, Filter, Query};
-use picker_bench::picker::{pick, Picked, Statistics, MAX_WORDS};
+use picker_bench::picker::drawn::drawn;
+use picker_bench::picker::{pack, pick, Picked, Statistics, MAX_WORDS};
 use picker_bench::random::Random;
 use std::collections::BTreeSet;
 use trace::{check_plan, Buffers, Cache, Store};
@@ -110,6 +111,8 @@ pub fn same_list(store: &Store, query: &Query, picked: &Picked, buffers: &mut Bu
         "{query:?}: {:?}",
         picked.operators
     );
+    let statistics = Statistics::of(store.words()).expect("a store");
+    assert_eq!(store.draw_plan(&file), Ok(pack(&drawn(query, &statistics))), "the drawn plan is the engine's");
     let drawn = store.run_drawn(&file, Cache::On, buffers).expect("a run");
     let drawn = sorted(drawn.rows());
     let run = store.run_growing(&file, &picked.plan, Cache::On, buffers).expect("a run");
