@@ -12,10 +12,11 @@ use Rattle.graph.specs.Graph.{Direction, forward, backward}
 use Rattle.graph.specs.Store.{graphIn, storeOf, storeSize, wellFormed, storeFault}
 use Rattle.adjacency.specs.inner.Side.{Within, verticesIn, edgesIn, sideIn}
 use Rattle.short_lists.specs.inner.Check.{unless, countsFit, labelsFit, daysFit, offsetsFit, offsetsOn, sideFits, sideGood, GoodSide, sideMirrored, Counted}
-use Rattle.store.proofs.Counting.{counted-as, forward-room, backward-room}
+use Rattle.store.proofs.Counting.{counted-as, counted-few, counted-edges, forward-room, backward-room}
 use Rattle.short_lists.proofs.Loops.{answer-hands, answer-passes}
 use Rattle.short_lists.proofs.Offsets.{offsets-rising, offsets-within}
-use Rattle.short_lists.proofs.Fits.{good-side}
+use Rattle.store_step.specs.inner.Walk.{sidesAgree, Decides, BothRise}
+use Rattle.store_step.proofs.Agreeing.{agree, agreed}
 use Rattle.store.proofs.Spelt.{Passed, passed-accepted}
 use Rattle.store.proofs.Tested.{accepted-passed}
 
@@ -26,20 +27,6 @@ pub offsets-part : (store : List ℕ) (n m side : ℕ)
     → unless (offsetsFit m (take (side + n + 1 - side) (drop side store))) ≡ unless (offsetsFit m (offsetsOn store n side))
 offsets-part store n m side =
     ap (λ (k : ℕ). unless (offsetsFit m (take k (drop side store)))) (let i : side + n + 1 - side ≡ suc n = omega arith in i)
-
--- The answer to their test.
-module _ (store : List ℕ) (n m side : ℕ) {r : ℕ} (e : r ≡ unless (offsetsFit m (offsetsOn store n side))) where
-  pub offsets-refused : (r ≡ 0 → ⊥) → r ≡ unless (sideGood store n m side)
-  offsets-refused h =
-      answer-hands (offsetsFit m (offsetsOn store n side)) (sideGood store n m side) e h
-      (and-l (offsetsFit m (offsetsOn store n side)) (sideFits store n side))
-
-  pub offsets-pass : r ≡ 0 → offsetsFit m (offsetsOn store n side) ≡ true
-  offsets-pass z = answer-passes (offsetsFit m (offsetsOn store n side)) e z
-
-  -- Then the lists decide.
-  pub offsets-then : r ≡ 0 → unless (sideFits store n side) ≡ unless (sideGood store n m side)
-  offsets-then z = ap (λ (b : Bool). unless (b && sideFits store n side)) (sym (offsets-pass z))
 
 -- ---- the labels and the days
 
@@ -124,39 +111,80 @@ vertices-pass store e z = answer-passes (labelsFit store && daysFit store) e z
 
 -- The answers in turn: where one is not 0 it is the refusal, and where it is 0 its test is passed.
 module _ {store : List ℕ} {n m one two : ℕ} (k : Counted store n m one two) {r : ℕ} where
-  pub rises-refuse : r ≡ unless (offsetsFit m (offsetsOn store n one)) → (r ≡ 0 → ⊥) → r ≡ storeFault store
-  rises-refuse e h =
+  pub ahead-refuses : r ≡ unless (offsetsFit m (offsetsOn store n one)) → (r ≡ 0 → ⊥) → r ≡ storeFault store
+  ahead-refuses e h =
       refuses store (offsetsFit m (offsetsOn store n one)) e h
       (λ p. and-l (offsetsFit m (offsetsOn store n one)) (sideFits store n one) (passed-at k p .there))
 
-  pub back-refuses : r ≡ unless (sideGood store n m two) → (r ≡ 0 → ⊥) → r ≡ storeFault store
-  back-refuses e h = refuses store (sideGood store n m two) e h (λ p. passed-at k p .back)
+  pub back-refuses : r ≡ unless (offsetsFit m (offsetsOn store n two)) → (r ≡ 0 → ⊥) → r ≡ storeFault store
+  back-refuses e h =
+      refuses store (offsetsFit m (offsetsOn store n two)) e h
+      (λ p. and-l (offsetsFit m (offsetsOn store n two)) (sideFits store n two) (passed-at k p .back))
 
-  pub rises-pass : r ≡ unless (offsetsFit m (offsetsOn store n one)) → r ≡ 0 → offsetsFit m (offsetsOn store n one) ≡ true
-  rises-pass e z = offsets-pass store n m one e z
+  pub lists-refuse : r ≡ unless (sideFits store n two) → (r ≡ 0 → ⊥) → r ≡ storeFault store
+  lists-refuse e h =
+      refuses store (sideFits store n two) e h
+      (λ p. and-r (offsetsFit m (offsetsOn store n two)) (sideFits store n two) (passed-at k p .back))
 
-  pub back-passes : r ≡ unless (sideGood store n m two) → r ≡ 0 → sideGood store n m two ≡ true
-  back-passes e z = answer-passes (sideGood store n m two) e z
+pub offsets-pass : (store : List ℕ) (n m side : ℕ) {r : ℕ} → r ≡ unless (offsetsFit m (offsetsOn store n side)) → r ≡ 0
+    → offsetsFit m (offsetsOn store n side) ≡ true
+offsets-pass store n m side e z = answer-passes (offsetsFit m (offsetsOn store n side)) e z
 
-  -- The last one decides.
-  pub mirrors-decide : r ≡ unless (sideFits store n one && sideMirrored store n one two) → (labelsFit store && daysFit store) ≡ true
-      → offsetsFit m (offsetsOn store n one) ≡ true → sideGood store n m two ≡ true → r ≡ storeFault store
-  mirrors-decide e described offsets back =
-      decides store (sideFits store n one && sideMirrored store n one two) e
-      (λ p.
-      and-both (sideFits store n one) (sideMirrored store n one two)
-      (and-r (offsetsFit m (offsetsOn store n one)) (sideFits store n one) (passed-at k p .there)) (passed-at k p .mirrored))
-      (λ t.
+pub lists-pass : (store : List ℕ) (n side : ℕ) {r : ℕ} → r ≡ unless (sideFits store n side) → r ≡ 0 → sideFits store n side ≡ true
+lists-pass store n side e z = answer-passes (sideFits store n side) e z
+
+-- Both sides have offsets that fit.
+module _ {store : List ℕ} {n m one two : ℕ} (k : Counted store n m one two) (described : (labelsFit store && daysFit store) ≡ true)
+    (ahead : offsetsFit m (offsetsOn store n one) ≡ true) (back : offsetsFit m (offsetsOn store n two) ≡ true) where
+  passed-sides : sideFits store n one ≡ true → sideMirrored store n one two ≡ true → sideFits store n two ≡ true → Passed store
+  passed-sides f m g =
       at-passed k described
       (record {
-        there = and-both (offsetsFit m (offsetsOn store n one)) (sideFits store n one) offsets (and-l (sideFits store n one) (sideMirrored store n one two) t);
-        back = back;
-        mirrored = and-r (sideFits store n one) (sideMirrored store n one two) t;
-      }))
+        there = and-both (offsetsFit _ (offsetsOn store n one)) (sideFits store n one) ahead f;
+        back = and-both (offsetsFit _ (offsetsOn store n two)) (sideFits store n two) back g;
+        mirrored = m;
+      })
 
-  -- What the mirrors need of the sides.
-  pub lists-within : r ≡ unless (offsetsFit m (offsetsOn store n one)) → r ≡ 0 → (v : ℕ) → v < n → Within store n one v
-  lists-within e z = offsets-within store n m one (forward-room k) (offsets-rising store n m one (forward-room k) (rises-pass e z))
+  its-lists : Passed store → sideFits store n one ≡ true
+  its-lists p = and-r (offsetsFit m (offsetsOn store n one)) (sideFits store n one) (passed-at k p .there)
 
-  pub back-good : r ≡ unless (sideGood store n m two) → r ≡ 0 → GoodSide store n two
-  back-good e z = good-side store n m two (backward-room k) (back-passes e z)
+  its-others : Passed store → sideFits store n two ≡ true
+  its-others p = and-r (offsetsFit m (offsetsOn store n two)) (sideFits store n two) (passed-at k p .back)
+
+  -- The walk decides, unless it is undecided.
+  pub walk-decides : {r : ℕ} → Decides r (sidesAgree store n one two) → (r ≡ 1 → ⊥) → r ≡ storeFault store
+  walk-decides d h =
+      decides store (sidesAgree store n one two) (d h)
+      (λ p. agree store n one two (its-lists p) (passed-at k p .mirrored) (its-others p))
+      (λ t. let a = agreed store n one two t in passed-sides (a .0) (a .1) (a .2))
+
+  -- After the lists of the second side the mirrors decide.
+  pub mirrors-decide : {r : ℕ} → r ≡ unless (sideFits store n one && sideMirrored store n one two) → sideFits store n two ≡ true
+      → r ≡ storeFault store
+  mirrors-decide e g =
+      decides store (sideFits store n one && sideMirrored store n one two) e
+      (λ p. and-both (sideFits store n one) (sideMirrored store n one two) (its-lists p) (passed-at k p .mirrored))
+      (λ t.
+      passed-sides (and-l (sideFits store n one) (sideMirrored store n one two) t) (and-r (sideFits store n one) (sideMirrored store n one two) t) g)
+
+  -- What the walk needs of the sides, and what the mirrors need.
+  pub both-rise : BothRise store n m one two
+  both-rise =
+      record {
+        room = forward-room k;
+        other-room = backward-room k;
+        rises = ahead;
+        other-rises = back;
+        few = omega (arith, counted-few k);
+        countable = omega (arith, counted-edges k);
+      }
+
+  pub lists-within : (v : ℕ) → v < n → Within store n one v
+  lists-within = offsets-within store n m one (forward-room k) (offsets-rising store n m one (forward-room k) ahead)
+
+  pub back-good : sideFits store n two ≡ true → GoodSide store n two
+  back-good g =
+      record {
+        within = offsets-within store n m two (backward-room k) (offsets-rising store n m two (backward-room k) back);
+        fits = g;
+      }

@@ -1,4 +1,5 @@
 -- Laws of the store check.
+pub mod Dropping
 pub mod KeyLists
 pub mod Counting
 pub mod Order

@@ -209,6 +209,11 @@ pub fn triangle() -> Case {
     Case::new("triangle", 3, plain(&[(0, 1), (0, 2), (1, 2)]), (0, 1), &[Extend(2)])
 }
 
+/// Of packages: three of which each depends on the next, and the first on the last, in the common way.
+pub fn package_triangle() -> Case {
+    Case::new("triangle of label 3", 3, vec![(0, 1, 3), (0, 2, 3), (1, 2, 3)], (0, 1), &[Extend(2)])
+}
+
 pub fn mixed_triangle() -> Case {
     let edges = vec![(0, 1, 1), (0, 2, 2), (1, 2, 3)];
     Case::new("triangle of labels 1, 2, 3", 3, edges, (0, 1), &[Extend(2)])

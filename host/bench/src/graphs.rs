@@ -12,6 +12,8 @@ pub enum Shape {
     /// Power law, and with each edge the one back.
     Slings,
     Rig,
+    /// Like the packages of a distribution, with so many edges for each vertex: nine kinds of dependency.
+    Packages(f64),
 }
 
 impl Shape {
@@ -23,6 +25,7 @@ impl Shape {
             }
             Shape::Slings => "slings, every edge in both directions".into(),
             Shape::Rig => format!("rig, {} labels", rig_label::CABLES.end - 1),
+            Shape::Packages(_) => format!("packages, {} labels", KINDS.len()),
         }
     }
 
@@ -40,6 +43,10 @@ impl Shape {
                 (vec![0; n], edges.into_iter().collect())
             }
             Shape::Rig => rig(m / 2),
+            Shape::Packages(degree) => {
+                let n = ((m as f64 / degree).round() as usize).min(65_535);
+                (vec![0; n], packages(n))
+            }
         };
         let mut r = Random(0xDA75 ^ labels.len() as u64);
         let days = labels.iter().map(|_| 1 + r.below(DAYS) as u16).collect();
@@ -229,4 +236,44 @@ fn rig(vertices: usize) -> (Vec<u16>, Vec<Edge>) {
         edges.insert((from as u16, (CABLES.start + r.below(CABLES.len())) as u8, to as u16));
     }
     (labels, edges.into_iter().collect())
+}
+
+/// The kinds of dependency of a package, by label: how many packages in a thousand have some, and how many of them on average. The
+/// third is the common one; those of the others are few, and often of the same packages.
+const KINDS: [(usize, f64); 9] = [
+    (90, 2.0),
+    (50, 1.6),
+    (930, 4.4),
+    (20, 1.3),
+    (30, 1.2),
+    (100, 2.0),
+    (160, 2.4),
+    (90, 2.0),
+    (170, 2.1),
+];
+
+/// Every package depends on a few others, most often on one of a few hubs.
+fn packages(n: usize) -> Vec<Edge> {
+    let mut r = Random(0xDEB1_A400 ^ n as u64);
+    let mut number: Vec<u16> = (0..n).map(|v| v as u16).collect();
+    (1..n).rev().for_each(|i| number.swap(i, r.below(i + 1)));
+    let mut edges = BTreeSet::new();
+    for source in 0..n {
+        let rich = r.below(1_000) < 350;
+        for (kind, &(share, mean)) in KINDS.iter().enumerate() {
+            let common = kind == 2;
+            let share = if common { share } else { share * if rich { 220 } else { 35 } / 100 };
+            if r.below(1_000) >= share {
+                continue;
+            }
+            let mut more = true;
+            while more {
+                let hub = kind == 2 || kind == 6 || kind == 8;
+                let power = if hub { 4.0 } else { 1.0 };
+                edges.insert((source as u16, kind as u8 + 1, number[(n as f64 * r.unit().powf(power)) as usize]));
+                more = r.unit() > 1.0 / mean;
+            }
+        }
+    }
+    edges.into_iter().collect()
 }

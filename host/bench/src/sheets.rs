@@ -60,6 +60,7 @@ pub fn sheets() -> Vec<Sheet> {
             drawn: vec![named("braced bay"), named("motor on a chain of 3"), cases::two_motors()],
             ..sheet(Shape::Rig, 130_000, 16_000, rig.clone())
         },
+        Sheet { draws: true, ..sheet(Shape::Packages(5.5), 357_000, 25_000, vec![cases::package_triangle()]) },
     ]
 }
 

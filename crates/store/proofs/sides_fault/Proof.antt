@@ -1,56 +1,47 @@
--- `store::sides_fault` meets its contract: a failed test refuses the store, and the last one decides. Assumes nothing.
-use native.Mathlib.Omega.{arith}
-use Rattle.store.proofs.Counting.{counted-few, counted-edges, forward-room, backward-room}
-use Rattle.store.proofs.Decided.{rises-refuse, back-refuses, rises-pass, back-passes, lists-within, back-good, mirrors-decide}
+-- `store::sides_fault` meets its contract: a failed test refuses the store, and then the walk decides, or the search. Assumes nothing.
+use mathlib.Core.Path.{_≡_}
+use mathlib.Core.Bool.{true}
+use denote.Ref.{now}
+use Rattle.short_lists.specs.inner.Check.{offsetsFit, offsetsOn}
+use Rattle.store.proofs.Counting.{counted-few, forward-room, backward-room}
+use Rattle.store.proofs.Decided.{ahead-refuses, back-refuses, offsets-pass, both-rise, walk-decides}
 use Rattle.store.proofs.sides_fault.Statement.{statement}
 use Rattle.store.proofs.sides_fault.Tie as tie
 
 side-offsets-fault-requires : tie.Need-side-offsets-fault-requires
-side-offsets-fault-requires c κs = forward-room (c .before .pre .0)
+side-offsets-fault-requires c κs = (forward-room (c .before .pre .0), counted-few (c .before .pre .0))
 
 returns : tie.Need-returns
-returns c = rises-refuse (c .before .before .before .pre .0) (c .before .side-offsets-fault .ensures) (c .if1 .taken)
+returns c = ahead-refuses (c .before .before .before .pre .0) (c .before .side-offsets-fault .ensures) (c .if1 .taken)
 
-side-fault-requires : tie.Need-side-fault-requires
-side-fault-requires c κs = let k = c .before .before .before .pre .0 in (backward-room k, (counted-few k, counted-edges k))
+side-offsets-fault-requires-2 : tie.Need-side-offsets-fault-requires-2
+side-offsets-fault-requires-2 c κs = (backward-room (c .before .before .before .pre .0), counted-few (c .before .before .before .pre .0))
 
 returns-2 : tie.Need-returns-2
-returns-2 c = back-refuses (c .before .before .before .before .before .pre .0) (c .before .side-fault .ensures) (c .if2 .taken)
+returns-2 c = back-refuses (c .before .before .before .before .before .pre .0) (c .before .side-offsets-fault2 .ensures) (c .if2 .taken)
 
-mul-if3 : tie.Need-mul-if3
-mul-if3 c = omega (arith, counted-few (c .before .before .before .before .before .pre .0))
+-- The offsets of both sides passed their tests.
+ahead : (c : tie.Else2) → let a = c .before .before .before .before .before .args in offsetsFit (a .m) (offsetsOn (now (a .store)) (a .n) (a .forward)) ≡ true
+ahead c =
+    let a = c .before .before .before .before .before .args in
+    offsets-pass (now (a .store)) (a .n) (a .m) (a .forward) (c .before .before .before .side-offsets-fault .ensures) (c .before .before .if1 .left)
 
-short-side-fault-requires : tie.Need-short-side-fault-requires
-short-side-fault-requires c κs =
-    let e = c .before in
-    let k = e .before .before .before .before .before .pre .0 in (
-      (forward-room k, rises-pass k (e .before .before .before .side-offsets-fault .ensures) (e .before .before .if1 .left)),
-      (back-good k (e .before .side-fault .ensures) (e .if2 .left), (counted-few k, counted-edges k)),
-    )
+back : (c : tie.Else2) → let a = c .before .before .before .before .before .args in offsetsFit (a .m) (offsetsOn (now (a .store)) (a .n) (a .backward)) ≡ true
+back c =
+    let a = c .before .before .before .before .before .args in
+    offsets-pass (now (a .store)) (a .n) (a .m) (a .backward) (c .before .side-offsets-fault2 .ensures) (c .if2 .left)
+
+agreement-fault-requires : tie.Need-agreement-fault-requires
+agreement-fault-requires c κs = let p = c .before .before .before .before .before .pre in both-rise (p .0) (p .1) (ahead c) (back c)
 
 returns-3 : tie.Need-returns-3
-returns-3 c =
-    let e = c .before .before in
-    let p = e .before .before .before .before .before .pre in
-    mirrors-decide (p .0) (c .short-side-fault .ensures) (p .1)
-    (rises-pass (p .0) (e .before .before .before .side-offsets-fault .ensures) (e .before .before .if1 .left))
-    (back-passes (p .0) (e .before .side-fault .ensures) (e .if2 .left))
+returns-3 c = let p = c .before .before .before .before .before .before .before .pre in walk-decides (p .0) (p .1) (ahead (c .before .before)) (back (c .before .before)) (c .before .agreement-fault .ensures) (c .if3 .taken)
 
-mirrored-side-fault-requires : tie.Need-mirrored-side-fault-requires
-mirrored-side-fault-requires c κs =
-    let e = c .before in
-    let k = e .before .before .before .before .before .pre .0 in (
-      lists-within k (e .before .before .before .side-offsets-fault .ensures) (e .before .before .if1 .left),
-      (back-good k (e .before .side-fault .ensures) (e .if2 .left), counted-few k),
-    )
+searched-fault-requires : tie.Need-searched-fault-requires
+searched-fault-requires c κs = let p = c .before .before .before .before .before .before .before .pre in (p .0, (p .1, (ahead (c .before .before), back (c .before .before))))
 
 returns-4 : tie.Need-returns-4
-returns-4 c =
-    let e = c .before .before in
-    let p = e .before .before .before .before .before .pre in
-    mirrors-decide (p .0) (c .mirrored-side-fault .ensures) (p .1)
-    (rises-pass (p .0) (e .before .before .before .side-offsets-fault .ensures) (e .before .before .if1 .left))
-    (back-passes (p .0) (e .before .side-fault .ensures) (e .if2 .left))
+returns-4 c = c .searched-fault .ensures
 
 pub sides-fault-spec : {M : Type 1} → statement M
 sides-fault-spec =
@@ -58,10 +49,9 @@ sides-fault-spec =
     (tie.spec
     side-offsets-fault-requires
     returns
-    side-fault-requires
+    side-offsets-fault-requires-2
     returns-2
-    mul-if3
-    short-side-fault-requires
+    agreement-fault-requires
     returns-3
-    mirrored-side-fault-requires
+    searched-fault-requires
     returns-4)

@@ -1,6 +1,7 @@
-//! The store check, as the engine has it: the backward side in order, then the forward one in order and each of its entries mirrored;
-//! counting does the rest.
+//! The store check, as the engine has it: both sides walked by labels where these are few; else the backward side in order, then the
+//! forward one in order and each of its entries mirrored, and counting does the rest.
 use super::graph::{accumulate, find, Graph};
+use super::walk::sides_agree;
 use crate::files::store_words;
 
 /// Where there are no more than so many entries a vertex, lists are short.
@@ -133,9 +134,14 @@ pub fn check(store: &[u32]) -> bool {
     let g = Graph::of(store);
     let ordered = store[2..g.forward].iter().all(|&number| number < 65_536)
         && offsets_are_right(&g, g.forward, m)
-        && offsets_are_right(&g, g.backward, m)
-        && lists_are_right(&g, g.backward, m);
+        && offsets_are_right(&g, g.backward, m);
     if !ordered {
+        return false;
+    }
+    if let Some(agree) = sides_agree(&g, m, g.forward, g.backward) {
+        return agree;
+    }
+    if !lists_are_right(&g, g.backward, m) {
         return false;
     }
     if m <= SHORT * n {

@@ -1,8 +1,8 @@
--- `store::entry_fault` meets its contract: each test is one of `entryFits`. Assumes nothing.
+-- `store_step::entry_fault` meets its contract: each test is one of `entryFits`. Assumes nothing.
 use native.Mathlib.Omega.{arith}
 use Rattle.short_lists.proofs.Loops.{entry-falls, entry-wide, entry-outside, entry-passes}
-use Rattle.store.proofs.entry_fault.Statement.{statement}
-use Rattle.store.proofs.entry_fault.Tie as tie
+use Rattle.store_step.proofs.entry_fault.Statement.{statement}
+use Rattle.store_step.proofs.entry_fault.Tie as tie
 
 returns : tie.Need-returns
 returns c = entry-falls _ _ _ (c .if1 .taken)
