@@ -11,7 +11,7 @@ const MOST_NODES: usize = 3_000;
 
 /// A plan that is known is taken where it takes up to so many times the best time, by the vertices of the query, 2 to
 /// 8: the longer a plan, the less is known of its time.
-const KNOWN_PREFERRED: [f64; 7] = [1.0, 1.02, 1.02, 1.02, 1.25, 1.25, 1.25];
+const KNOWN_PREFERRED: [f64; 7] = [1.0, 1.0, 1.0, 1.0, 1.25, 1.25, 1.25];
 
 /// A plan of the search: what it takes, and its operators.
 #[derive(Clone, Debug)]
