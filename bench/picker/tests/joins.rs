@@ -27,7 +27,8 @@ fn hubs() -> Store {
     Store::load(&graph.file()).expect("an accepted graph")
 }
 
-/// Two rare leaves on one hub: an extend goes through a hub's whole list for each leaf, a join through both scans once.
+/// Two rare leaves on one hub: an extend goes through a hub's whole list for each leaf, a join through both
+/// scans once.
 fn two_leaves() -> Query {
     let filters = vec![Filter { label: 2, ..ANY }, ANY, Filter { label: 3, ..ANY }];
     let edges = vec![Edge { from: 0, to: 1, label: 1 }, Edge { from: 2, to: 1, label: 1 }];

@@ -3,8 +3,8 @@
 use super::query::{Operator, Query};
 use super::statistics::Statistics;
 
-/// The scan of the query edge whose label has fewest data edges, then lowest index; then extends by the vertex
-/// with most query edges to the covered ones, then lowest number.
+/// The scan of the query edge whose label has fewest data edges, then lowest index; then extends by the
+/// vertex with most query edges to the covered ones, then lowest number.
 pub fn drawn(query: &Query, statistics: &Statistics) -> Vec<Operator> {
     let count = |label: u32| statistics.edge_labels(label).map(|known| u64::from(known.count)).sum::<u64>();
     let scan = (0..query.edges.len()).min_by_key(|&i| count(query.edges[i].label)).unwrap_or(0);

@@ -17,7 +17,8 @@ pub const UNSEEN_SIZE: usize = 512;
 /// A sample is made larger by no less than this, and by no more at a time.
 const LEAST_GROWTH: f64 = 2.0;
 const MOST_GROWTH: f64 = 16.0;
-/// What a search may take until it has gone through all that is worth it, and what it takes besides sampling.
+/// What a search may take until it has gone through all that is worth it, and what it takes besides
+/// sampling.
 const SEARCH: f64 = 900_000.0;
 const BASE: f64 = 5_000.0;
 
@@ -35,8 +36,8 @@ impl Effort {
         Effort { size: FIRST_SIZE, limit: SEARCH, spent: 0.0 }
     }
 
-    /// Goes on to the next round, if it may be taken after one that took so much and found a plan of a time, of
-    /// which a part may be unseen; answers whether it did.
+    /// Goes on to the next round, if it may be taken after one that took so much and found a plan of a
+    /// time, of which a part may be unseen; answers whether it did.
     pub fn next_round(&mut self, took: f64, time: f64, unseen: bool) -> bool {
         let took = took + BASE;
         self.spent += took;

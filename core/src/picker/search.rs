@@ -9,9 +9,9 @@ use super::stage::Stage;
 /// Sets that are gone on from, at most.
 const MOST_NODES: usize = 3_000;
 
-/// A plan that is known is taken where it takes up to so many times the best time, by the vertices of the query, 2 to
-/// 8: the longer a plan, the less is known of its time.
-const KNOWN_PREFERRED: [f64; 7] = [1.0, 1.02, 1.02, 1.02, 1.25, 1.25, 1.25];
+/// A plan that is known is taken where it takes up to so many times the best time, by the vertices of the
+/// query, 2 to 8: the longer a plan, the less is known of its time.
+const KNOWN_PREFERRED: [f64; 7] = [1.0, 1.0, 1.0, 1.0, 1.25, 1.25, 1.25];
 
 /// A plan of the search: what it takes, and its operators.
 #[derive(Clone, Debug)]
@@ -50,8 +50,8 @@ impl<'s, 'a> Search<'s, 'a> {
         }
     }
 
-    /// The best ordering, beginning with one that is known. Estimates get better while the search goes on, so it is
-    /// made again from the first one's best plan, by the estimates as they are then.
+    /// The best ordering, beginning with one that is known. Estimates get better while the search goes on,
+    /// so it is made again from the first one's best plan, by the estimates as they are then.
     pub fn best_ordering(&mut self, known: &[Operator]) -> Option<Found> {
         let mut best = self.described(known)?;
         for _ in 0..2 {
