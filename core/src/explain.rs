@@ -76,14 +76,14 @@ fn beside(out: &mut String, document: &Document, found: &Found, word: &str, ran:
     };
     let operators = plan.operators.iter().zip(&other.operators);
     let steps: Vec<String> = operators
-        .map(|(&operator, thought)| format!("{} ({})", document.operator(found.pattern, operator), rows(thought.rows)))
+        .map(|(&operator, thought)| format!("{} ({} rows)", document.operator(found.pattern, operator), rows(thought.rows)))
         .collect();
     let time = ran.filter(|ran| ran.time > 0.0).map_or_else(String::new, |ran| {
         let ratio = other.time / ran.time;
         let digits = if ratio < 10.0 { 1 } else { 0 };
-        format!("; thought to take {ratio:.digits$} of its time")
+        format!("; {ratio:.digits$} of the time")
     });
-    let _ = writeln!(out, "The {word} plan, with the rows that are estimated: {}{time}.", steps.join(", "));
+    let _ = writeln!(out, "The {word} plan, by estimates: {}{time}.", steps.join(", "));
 }
 
 /// An estimate of rows.
