@@ -17,7 +17,7 @@ use std::time::Duration;
 
 use engine::Library;
 use graphs::{rig_label, Shape};
-use rizhavaan_core::engine::{run_growing, store_words, Engine};
+use rizhavaan_core::engine::{run_growing, store_words, Engine, First};
 use rizhavaan_core::{read, Source};
 
 const ROUNDS: usize = 25;
@@ -68,7 +68,7 @@ fn alone(graph: &[u8], words: usize, query: &[u8]) -> (Duration, u64) {
     Library.load(graph, &mut store).unwrap();
     let mut plan = vec![0; 6];
     let length = Library.draw_plan(&store, query, &mut plan).unwrap();
-    let ran = run_growing(&Library, &store, query, &plan[..length as usize], 3, 1 << 30).unwrap();
+    let ran = run_growing(&Library, &store, query, &plan[..length as usize], 3, 1 << 30, First::default()).unwrap();
     (own_time() - start, ran.answer.rows)
 }
 

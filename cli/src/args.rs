@@ -75,7 +75,8 @@ pub struct Files {
 /// How to look.
 #[derive(Args, Clone)]
 pub struct How {
-    /// The plan: 'given' in the text or 'drawn' by the engine [default: given where there is one, else drawn]
+    /// The plan: 'given' in the text, 'picked' by estimates of its time or 'drawn' by the engine's rule; all list the same
+    /// places, in an order of their own [default: given where there is one, else picked]
     #[arg(long, value_enum, value_name = "PLAN")]
     pub plan: Option<PlanArgument>,
     /// List mirror images once
@@ -89,6 +90,7 @@ pub struct How {
 #[derive(Clone, Copy, ValueEnum)]
 pub enum PlanArgument {
     Given,
+    Picked,
     Drawn,
 }
 

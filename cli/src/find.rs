@@ -2,6 +2,7 @@
 
 use std::io::Write;
 
+use rizhavaan_core::explain::instead;
 use rizhavaan_core::json::{pair_words, FoundJson};
 use rizhavaan_core::kinds::Kinds;
 use rizhavaan_core::summary::Summary;
@@ -24,6 +25,7 @@ pub fn options(how: &How, count_only: bool) -> Options {
         plan: match how.plan {
             None => Choice::Best,
             Some(PlanArgument::Given) => Choice::Given,
+            Some(PlanArgument::Picked) => Choice::Picked,
             Some(PlanArgument::Drawn) => Choice::Drawn,
         },
         once: how.once,
@@ -149,9 +151,12 @@ pub fn show_summary(document: &Document) {
     tell(&format!("{} connections: {}", summary.connections, words(&summary.connection_kinds)));
 }
 
-/// Says how often each place stands, or which pairs were added so that it stands once.
+/// Says how often each place stands, or which pairs were added so that it stands once; and where a picked plan was refused.
 pub fn hint(found: &Found, with_title: bool) {
     let title = if with_title { format!("{}: ", found.pattern.title()) } else { String::new() };
+    if let Some(sentence) = instead(found) {
+        tell(&format!("{title}{sentence}"));
+    }
     if !found.added.is_empty() {
         let pairs = pair_words(found.pattern, &found.added).join(", ");
         tell(&format!("{title}mirror images once, by {pairs}"));

@@ -26,7 +26,7 @@ pub fn explain(arguments: &Explain) -> Result<u8> {
     let mut all = Vec::new();
     for pattern in patterns {
         let found = read.explain(loaded.find(&Library, pattern, &options))?;
-        all.push(explain::explain(read.document(), &found));
+        all.push(read.explain(explain::explain(&Library, &loaded, &found, options.memory))?);
     }
     progress.end();
     let mut output = Output::new(None)?;

@@ -139,7 +139,7 @@ fn go_through(sources: &[Source]) -> bool {
     let options = Options { memory: 16_000_000, ..Options::default() };
     for pattern in chosen(document, &[]).unwrap_or_default() {
         if let Ok(found) = loaded.find(&Library, pattern, &options) {
-            explain::explain(document, &found);
+            explain::explain(&Library, &loaded, &found, options.memory).unwrap();
             picture::dot(document, loaded.hang, Some(&found), false);
             if found.places() == 0 {
                 assert!(!why::why(&loaded, &found).is_empty());

@@ -92,6 +92,28 @@ pub struct Ran {
 /// Words that a run begins with. The engine clears the whole scratch, so that it is not lent more than needed.
 const FIRST_WORDS: usize = 1 << 14;
 
+/// The buffers that a run begins with, in words.
+#[derive(Clone, Copy, Debug, PartialEq, Eq)]
+pub struct First {
+    pub scratch: usize,
+    pub list: usize,
+}
+
+impl Default for First {
+    fn default() -> First {
+        First { scratch: FIRST_WORDS, list: FIRST_WORDS }
+    }
+}
+
+impl First {
+    /// No smaller than by default, and each at most an eighth of so many bytes: what one of them has and does not
+    /// need, the other lacks.
+    fn within(self, memory: usize) -> First {
+        let most = (memory / 32).min(MAX_WORDS).max(FIRST_WORDS);
+        First { scratch: self.scratch.max(FIRST_WORDS).min(most), list: self.list.max(FIRST_WORDS).min(most) }
+    }
+}
+
 /// Runs a plan in buffers that grow until it fits, within so many bytes.
 pub fn run_growing(
     engine: &dyn Engine,
@@ -100,9 +122,11 @@ pub fn run_growing(
     plan: &[u8],
     width: usize,
     memory: usize,
+    first: First,
 ) -> Result<Ran, NoRun> {
-    let mut scratch = vec![0; FIRST_WORDS];
-    let mut list = vec![0; FIRST_WORDS];
+    let first = first.within(memory);
+    let mut scratch = vec![0; first.scratch];
+    let mut list = vec![0; first.list];
     let mut records = vec![Record::default(); MAX_OPERATORS];
     loop {
         let answer = engine.run(store, query, plan, &mut scratch, &mut list, &mut records);

@@ -3,26 +3,93 @@
 use std::fmt::Write;
 
 use crate::document::{Document, Pattern};
-use crate::find::{places, Found};
+use crate::engine::{meaning, Engine};
+use crate::failure::Failure;
+use crate::find::{places, Found, Loaded};
 use crate::packed::edge::Edge;
-use crate::packed::plan::Operator;
+use crate::packed::plan::{Operator, Plan};
+use crate::picker::Picked;
+use crate::plans::Origin;
 
-/// The plan of an answer, and what each operator did.
-pub fn explain(document: &Document, found: &Found) -> String {
+/// The plan of an answer, what each operator was thought to do and did, and the plans that did not run.
+pub fn explain(engine: &dyn Engine, loaded: &Loaded, found: &Found, memory: usize) -> Result<String, Failure> {
     let mut out = String::new();
+    let document = loaded.document;
     let pattern = found.pattern;
-    let from = if found.is_given { "the plan of the text" } else { "a plan that the engine drew" };
-    let _ = writeln!(out, "{}: {} by {from}, cost {}\n", pattern.title(), places(found.places()), found.cost);
+    let from = match found.origin {
+        Origin::Given => "the plan of the text",
+        Origin::Picked => "the plan that was picked",
+        Origin::Drawn | Origin::Instead(_) => "a plan that the engine drew",
+    };
+    let _ = writeln!(out, "{}: {} by {from}, cost {}", pattern.title(), places(found.places()), found.cost);
+    if let Some(sentence) = instead(found) {
+        let _ = writeln!(out, "{sentence}");
+    }
+    out.push('\n');
     words(&mut out, document, found);
     out.push('\n');
     drawing(&mut out, document, found);
     out.push('\n');
-    bars(&mut out, document, found);
+    let query = found.query.to_bytes();
+    let estimate = found.estimate.clone().or_else(|| loaded.estimate(&query, &found.plan_bytes));
+    bars(&mut out, document, found, estimate.as_ref());
     let _ = writeln!(
         out,
         "\nThe cost counts the entries of neighbour lists that were looked up; the longest bar is the operator to change."
     );
-    out
+    if found.origin != Origin::Picked {
+        if let Some(picked) = loaded.pick(&query, memory) {
+            beside(&mut out, document, found, "picked", estimate.as_ref(), &picked);
+        }
+    }
+    if found.origin == Origin::Given || found.origin == Origin::Picked {
+        if let Some(drawn) = loaded.estimate(&query, &loaded.draw(engine, &query)?) {
+            beside(&mut out, document, found, "drawn", estimate.as_ref(), &drawn);
+        }
+    }
+    Ok(out)
+}
+
+/// Says that the drawn plan ran instead of a picked one, where it did.
+pub fn instead(found: &Found) -> Option<String> {
+    match found.origin {
+        Origin::Instead(Some(refusal)) => Some(format!(
+            "the engine refused the picked plan with {}: {}; the drawn plan was run",
+            refusal.0,
+            meaning(refusal)
+        )),
+        Origin::Instead(None) => Some("no plan was picked; the drawn plan was run".into()),
+        _ => None,
+    }
+}
+
+/// A plan that did not run: its operators with the rows that they are thought to have, and its time beside that of the
+/// one that ran.
+fn beside(out: &mut String, document: &Document, found: &Found, word: &str, ran: Option<&Picked>, other: &Picked) {
+    if other.plan == found.plan_bytes {
+        let _ = writeln!(out, "The {word} plan is the same.");
+        return;
+    }
+    let plan = match Plan::from_bytes(&other.plan, &found.query) {
+        Ok(plan) => plan,
+        Err(_) => return,
+    };
+    let operators = plan.operators.iter().zip(&other.operators);
+    let steps: Vec<String> = operators
+        .map(|(&operator, thought)| format!("{} ({} rows)", document.operator(found.pattern, operator), rows(thought.rows)))
+        .collect();
+    let time = ran.filter(|ran| ran.time > 0.0).map_or_else(String::new, |ran| {
+        let ratio = other.time / ran.time;
+        let digits = if ratio < 10.0 { 1 } else { 0 };
+        format!("; {ratio:.digits$} of the time")
+    });
+    let _ = writeln!(out, "The {word} plan, by estimates: {}{time}.", steps.join(", "));
+}
+
+/// An estimate of rows.
+fn rows(estimated: f64) -> String {
+    let digits = if estimated < 10.0 && estimated != estimated.round() { 1 } else { 0 };
+    format!("{estimated:.digits$}")
 }
 
 /// The result of an operator: the vertices it covers.
@@ -105,20 +172,27 @@ fn drawing(out: &mut String, document: &Document, found: &Found) {
 
 const BAR: u64 = 24;
 
-fn bars(out: &mut String, document: &Document, found: &Found) {
+fn bars(out: &mut String, document: &Document, found: &Found, estimate: Option<&Picked>) {
     let names: Vec<String> = found.plan.operators.iter().map(|&o| document.operator(found.pattern, o)).collect();
+    let thought = |i: usize| estimate.and_then(|e| e.operators.get(i)).map_or_else(String::new, |o| rows(o.rows));
     let width = names.iter().map(|n| n.chars().count()).max().unwrap_or(0).max("operator".len());
     let most_rows = found.records.iter().map(|r| r.rows).max().unwrap_or(0);
     let most_cost = found.records.iter().map(|r| r.cost).max().unwrap_or(0);
     let digits = |n: u64, head: &str| n.to_string().len().max(head.len());
     let (rows, cost) = (digits(most_rows, "rows"), digits(found.cost, "cost"));
+    let estimated = (0..names.len()).map(|i| thought(i).len()).max().unwrap_or(0).max("estimated".len());
     let bar_width = BAR as usize;
-    let _ = writeln!(out, "{:width$}  {:>rows$} {:bar_width$}  {:>cost$}", "operator", "rows", "", "cost");
-    for (name, record) in names.iter().zip(&found.records) {
+    let _ = writeln!(
+        out,
+        "{:width$}  {:>estimated$}  {:>rows$} {:bar_width$}  {:>cost$}",
+        "operator", "estimated", "rows", "", "cost"
+    );
+    for (i, (name, record)) in names.iter().zip(&found.records).enumerate() {
         let blanks = width - name.chars().count();
         let line = format!(
-            "{name}{:blanks$}  {:>rows$} {:bar_width$}  {:>cost$} {}",
+            "{name}{:blanks$}  {:>estimated$}  {:>rows$} {:bar_width$}  {:>cost$} {}",
             "",
+            thought(i),
             record.rows,
             bar(record.rows, most_rows),
             record.cost,

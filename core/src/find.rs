@@ -3,26 +3,17 @@
 use std::borrow::Cow;
 
 use crate::document::{Document, Hang, Pattern};
-use crate::engine::{run_growing, store_words, Engine, Record, Refusal, MAX_DRAWN_BYTES, PAGE_BYTES};
+use crate::engine::{run_growing, store_words, Engine, Ran, Record, PAGE_BYTES};
 use crate::failure::Failure;
 use crate::packed::edge::Edge;
 use crate::packed::graph::Graph;
 use crate::packed::pair::Pair;
 use crate::packed::plan::Plan;
 use crate::packed::query::Query;
+use crate::picker::Picked;
+use crate::plans::{instead, Choice, Known, Origin, Planned};
 use crate::symmetry;
 use crate::verify;
-
-/// Which plan a run takes.
-#[derive(Clone, Copy, Debug, PartialEq, Eq)]
-pub enum Choice {
-    /// The text's where it has one, else a drawn one.
-    Best,
-    /// The text's.
-    Given,
-    /// The engine's drawn plan.
-    Drawn,
-}
 
 /// How to look for a pattern.
 #[derive(Clone, Copy, Debug)]
@@ -49,6 +40,7 @@ pub struct Loaded<'d> {
     store: Vec<u32>,
     /// The connections that the store has.
     edges: Cow<'d, [Edge]>,
+    pub(crate) known: Known,
 }
 
 /// The places of a pattern.
@@ -63,8 +55,9 @@ pub struct Found<'d> {
     pub images: usize,
     pub plan: Plan,
     pub plan_bytes: Vec<u8>,
-    /// The plan is the text's.
-    pub is_given: bool,
+    pub origin: Origin,
+    /// What was thought of a picked plan before it ran.
+    pub estimate: Option<Picked>,
     pub rows: Vec<u32>,
     pub cost: u64,
     pub build: u64,
@@ -111,7 +104,7 @@ impl<'d> Loaded<'d> {
         if counts != (n as u64, m as u64) {
             return Err(Failure::Check(format!("of {n} items and {m} connections the engine loaded {counts:?}")));
         }
-        Ok(Loaded { document, hang, store, edges: Cow::Borrowed(&hang.graph.edges) })
+        Ok(Loaded { document, hang, store, edges: Cow::Borrowed(&hang.graph.edges), known: Known::default() })
     }
 
     /// The hang after the changes of the document.
@@ -139,7 +132,7 @@ impl<'d> Loaded<'d> {
                 "the changed hang has {counts:?} items and connections, not {expected:?}"
             )));
         }
-        Ok(Loaded { document, hang: self.hang, store, edges: Cow::Owned(edges) })
+        Ok(Loaded { document, hang: self.hang, store, edges: Cow::Owned(edges), known: Known::default() })
     }
 
     /// The graph that was loaded.
@@ -164,11 +157,13 @@ impl<'d> Loaded<'d> {
         let (query, added) = if options.once { once(pattern)? } else { (pattern.query.clone(), Vec::new()) };
         let query_bytes = query.to_bytes();
         verify::query(&query_bytes, &query).map_err(Failure::Check)?;
-        let (plan_bytes, is_given) = self.plan_bytes(engine, pattern, &query_bytes, options.plan)?;
-        let plan = verify::plan(&plan_bytes, &query).map_err(Failure::Check)?;
-        let width = query.vertices.len();
-        let ran = run_growing(engine, &self.store, &query_bytes, &plan_bytes, width, options.memory)
-            .map_err(|no_run| Failure::run(no_run, options.memory))?;
+        let mut planned = self.planned(engine, pattern, &query_bytes, options)?;
+        let mut ran = self.run(engine, &query, &query_bytes, &planned, options.memory);
+        if let Some(origin) = instead(&planned, &ran) {
+            planned = self.drawn(engine, &query_bytes, origin)?;
+            ran = self.run(engine, &query, &query_bytes, &planned, options.memory);
+        }
+        let (plan, ran) = ran?;
         if !options.count_only {
             let mut test = verify::Rows::new(self.document, self.hang, pattern, &query, &self.edges);
             test.test(&ran.list).map_err(Failure::Check)?;
@@ -181,8 +176,9 @@ impl<'d> Loaded<'d> {
             records: ran.records[..plan.operators.len()].to_vec(),
             query,
             plan,
-            plan_bytes,
-            is_given,
+            plan_bytes: planned.bytes,
+            origin: planned.origin,
+            estimate: planned.estimate,
             rows: ran.list,
             cost: ran.answer.cost,
             build: ran.answer.build,
@@ -190,31 +186,19 @@ impl<'d> Loaded<'d> {
         })
     }
 
-    fn plan_bytes(
+    /// Runs a plan that unpacks.
+    fn run(
         &self,
         engine: &dyn Engine,
-        pattern: &Pattern,
-        query: &[u8],
-        choice: Choice,
-    ) -> Result<(Vec<u8>, bool), Failure> {
-        let given = match choice {
-            Choice::Drawn => None,
-            Choice::Best | Choice::Given => pattern.plan.as_ref(),
-        };
-        if let Some(plan) = given {
-            if let Some(fault) = &pattern.plan_fault {
-                return Err(Failure::At(Box::new(fault.clone())));
-            }
-            return Ok((plan.to_bytes(), true));
-        }
-        if choice == Choice::Given {
-            return Err(Failure::Usage(format!("the pattern '{}' has no [plan]", pattern.title())));
-        }
-        let mut bytes = vec![0; MAX_DRAWN_BYTES];
-        let drawn = engine.draw_plan(&self.store, query, &mut bytes);
-        let length = drawn.map_err(|refusal: Refusal| Failure::Refused { what: "to draw a plan", refusal })?;
-        bytes.truncate(length as usize);
-        Ok((bytes, false))
+        query: &Query,
+        query_bytes: &[u8],
+        planned: &Planned,
+        memory: usize,
+    ) -> Result<(Plan, Ran), Failure> {
+        let plan = verify::plan(&planned.bytes, query).map_err(Failure::Check)?;
+        let width = query.vertices.len();
+        let ran = run_growing(engine, &self.store, query_bytes, &planned.bytes, width, memory, planned.first());
+        Ok((plan, ran.map_err(|no_run| Failure::run(no_run, memory))?))
     }
 }
 

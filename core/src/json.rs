@@ -35,7 +35,7 @@ impl Serialize for FoundJson<'_> {
         map.serialize_entry("records", &RecordsJson(self))?;
         let operators = found.plan.operators.iter().map(|&o| document.operator(pattern, o));
         map.serialize_entry("plan", &operators.collect::<Vec<_>>())?;
-        map.serialize_entry("planFrom", if found.is_given { "given" } else { "drawn" })?;
+        map.serialize_entry("planFrom", found.origin.word())?;
         map.serialize_entry("planBytes", &hex(&found.plan_bytes))?;
         map.serialize_entry("images", &found.images)?;
         map.serialize_entry("pairsAdded", &pair_words(pattern, &found.added))?;

@@ -1,7 +1,7 @@
 //! An engine that answers wrongly is found out: no list, but a sentence.
 
 use rizhavaan_core::engine::{Answer, Engine, Record, Refusal};
-use rizhavaan_core::{read, Failure, Loaded, Options, Source};
+use rizhavaan_core::{find_json, read, Choice, Failure, Loaded, Options, Origin, Source};
 
 /// An engine with a list ready, whatever it is asked.
 struct Ready {
@@ -58,7 +58,9 @@ p -any-> b
 a < b
 ";
 
-/// The rows of a list, or the sentence in place of one.
+const DRAWN: Options = Options { plan: Choice::Drawn, once: false, memory: 1 << 30, count_only: false };
+
+/// The rows of a list by a drawn plan, or the sentence in place of one.
 fn answer(rows: &[u32], counts: (u64, u64), plan: &[u8]) -> Result<Vec<u32>, String> {
     let sources = [Source::new("hang.txt", TEXT)];
     let reading = read(&sources);
@@ -66,7 +68,7 @@ fn answer(rows: &[u32], counts: (u64, u64), plan: &[u8]) -> Result<Vec<u32>, Str
     let engine = Ready { rows: rows.to_vec(), width: 3, counts, plan: plan.to_vec() };
     let loaded = Loaded::load(&engine, &document);
     let found = loaded
-        .and_then(|loaded| loaded.find(&engine, &document.patterns[0], &Options::default()).map(|found| found.rows));
+        .and_then(|loaded| loaded.find(&engine, &document.patterns[0], &DRAWN).map(|found| found.rows));
     found.map_err(|failure| match failure {
         Failure::Check(sentence) => sentence,
         other => panic!("{other}"),
@@ -115,7 +117,69 @@ fn pairs_are_tested() {
     let document = read(&sources).document.unwrap();
     let engine = Ready { rows: vec![1, 0], width: 2, counts: (2, 2), plan: vec![0x08, 0x00] };
     let loaded = Loaded::load(&engine, &document).unwrap();
-    let failure = loaded.find(&engine, &document.patterns[0], &Options::default()).unwrap_err();
+    let failure = loaded.find(&engine, &document.patterns[0], &DRAWN).unwrap_err();
     assert!(failure.to_string().contains("has not 0 < 1"), "{failure}");
     assert!(failure.to_string().starts_with("the check of the answer failed, so there is no list"), "{failure}");
+}
+
+/// An engine that refuses every plan but the one it draws.
+struct Particular {
+    ready: Ready,
+    refusal: u32,
+}
+
+impl Engine for Particular {
+    fn load(&self, file: &[u8], store: &mut [u32]) -> Result<(u64, u64), Refusal> {
+        self.ready.load(file, store)
+    }
+
+    fn apply_changes(&self, old: &[u32], changes: &[u8], store: &mut [u32]) -> Result<(u64, u64), Refusal> {
+        self.ready.apply_changes(old, changes, store)
+    }
+
+    fn draw_plan(&self, store: &[u32], query: &[u8], plan: &mut [u8]) -> Result<u64, Refusal> {
+        self.ready.draw_plan(store, query, plan)
+    }
+
+    fn run(
+        &self,
+        store: &[u32],
+        query: &[u8],
+        plan: &[u8],
+        scratch: &mut [u32],
+        list: &mut [u32],
+        records: &mut [Record],
+    ) -> Result<Answer, Refusal> {
+        match plan == self.ready.plan {
+            true => self.ready.run(store, query, plan, scratch, list, records),
+            false => Err(Refusal(self.refusal)),
+        }
+    }
+}
+
+/// A picked plan that Check plan refuses is replaced by the drawn one, and the answer says so; other refusals stand.
+#[test]
+fn a_picked_plan_that_is_refused() {
+    let sources = [Source::new("hang.txt", TEXT)];
+    let document = read(&sources).document.unwrap();
+    // Scan of the second edge, extend by a; of equal plans the first is picked, which begins with the first edge.
+    let ready = || Ready { rows: vec![0, 2, 4], width: 3, counts: (5, 4), plan: vec![0x10, 0x14, 0x80] };
+    let find = |refusal: u32, plan: Choice| {
+        let engine = Particular { ready: ready(), refusal };
+        let loaded = Loaded::load(&engine, &document).unwrap();
+        let found = loaded.find(&engine, &document.patterns[0], &Options { plan, ..DRAWN });
+        found.map(|found| (found.origin, found.rows)).map_err(|failure| failure.to_string())
+    };
+    let instead = |refusal| Ok((Origin::Instead(Some(Refusal(refusal))), vec![0, 2, 4]));
+    for refusal in 12..=18 {
+        assert_eq!(find(refusal, Choice::Picked), instead(refusal));
+        assert_eq!(find(refusal, Choice::Best), instead(refusal));
+        assert_eq!(find(refusal, Choice::Drawn), Ok((Origin::Drawn, vec![0, 2, 4])));
+    }
+    for refusal in [11, 19, 30] {
+        assert!(find(refusal, Choice::Picked).unwrap_err().contains(&format!("refused the run with {refusal}")));
+    }
+    let engine = Particular { ready: ready(), refusal: 16 };
+    let answer = find_json(&engine, &sources, &Options::default(), &[]);
+    assert!(answer.contains(r#""planFrom":"drawn instead of picked""#), "{answer}");
 }
