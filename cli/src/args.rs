@@ -115,6 +115,9 @@ pub struct Find {
     /// Pages of 60 lines and 80 columns, by item numbers, as the engine prints them
     #[arg(long, group = "form")]
     pub sheet: bool,
+    /// After the pages, the names of the item numbers that stand on them
+    #[arg(long, requires = "sheet")]
+    pub key: bool,
     /// Write here, whole or not at all
     #[arg(long, short, value_name = "FILE")]
     pub output: Option<PathBuf>,

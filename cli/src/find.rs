@@ -82,7 +82,12 @@ fn write(output: &mut Output, arguments: &Find, loaded: &Loaded, all: &[Found]) 
             _ if arguments.count && all.len() == 1 => writeln!(output, "{}", found.places())?,
             _ if arguments.count => writeln!(output, "{}: {}", found.pattern.title(), found.places())?,
             _ if arguments.csv => csv(output, loaded, found)?,
-            _ if arguments.sheet => sheet(output, found)?,
+            _ if arguments.sheet => {
+                sheet(output, found)?;
+                if arguments.key {
+                    key(output, loaded, found)?;
+                }
+            }
             _ => {
                 if i > 0 {
                     writeln!(output)?;
@@ -106,6 +111,26 @@ fn sheet(output: &mut Output, found: &Found) -> Result<()> {
         }
         page += 1;
     }
+}
+
+/// Columns of a line of the sheet, and those of the number and the blanks before a name in its key.
+const SHEET_COLUMNS: usize = 80;
+const KEY_INDENT: usize = 10;
+
+/// Writes which item each number on the pages is, ascending, in lines as wide as theirs; a long name goes on in the next line.
+fn key(output: &mut Output, loaded: &Loaded, found: &Found) -> Result<()> {
+    let items: std::collections::BTreeSet<u32> = found.rows().flat_map(|row| row.iter().copied()).collect();
+    let heading = format!("Key to the item numbers above: {} items", items.len());
+    writeln!(output, "{heading:<SHEET_COLUMNS$}")?;
+    for item in items {
+        let name: Vec<char> = loaded.hang.item(item).chars().collect();
+        for (i, part) in name.chunks(SHEET_COLUMNS - KEY_INDENT).enumerate() {
+            let number = if i == 0 { item.to_string() } else { String::new() };
+            let line = format!("{number:>8}  {}", part.iter().collect::<String>());
+            writeln!(output, "{line:<SHEET_COLUMNS$}")?;
+        }
+    }
+    Ok(())
 }
 
 fn csv(output: &mut Output, loaded: &Loaded, found: &Found) -> Result<()> {

@@ -330,3 +330,23 @@ fn sheets() {
     let expected: Vec<Vec<usize>> = (0..200).flat_map(|i| (200..300).map(move |j| vec![i, j])).collect();
     assert_eq!(rows, expected);
 }
+
+/// After the pages, which item each number is: lines as wide as theirs, a long name over several.
+#[test]
+fn sheet_with_its_key() {
+    let dir = folder("key");
+    let name = "the second truss from the back, on the side of the river, which is hung a hand lower than the others";
+    let text = format!("[graph]\nvertex pin\nvertex \"{name}\"\npin -1-> \"{name}\"\n[query]\nvertex a\nvertex b\na -1-> b\n");
+    std::fs::write(dir.join("key.txt"), text).unwrap();
+    let (status, out, _) = run(&dir, &["find", "key.txt", "--sheet", "--key"]);
+    assert_eq!(status, 0);
+    let lines: Vec<&str> = out[4_860..].lines().collect();
+    assert!(lines.iter().all(|line| line.chars().count() == 80), "{out}");
+    assert!(lines[0].starts_with("Key to the item numbers above: 2 items"), "{out}");
+    assert_eq!(lines[1].trim_end(), "       0  pin");
+    assert!(lines[2].starts_with("       1  the second"), "{out}");
+    assert_eq!(format!("{}{}", &lines[2][10..], lines[3][10..].trim_end()), name);
+    assert_eq!(lines.len(), 4);
+    let (status, ..) = run(&dir, &["find", "key.txt", "--key"]);
+    assert_eq!(status, 2);
+}
