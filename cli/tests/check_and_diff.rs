@@ -128,16 +128,17 @@ fn changes_that_do_not_apply() {
 fn the_plan_in_words() {
     let dir = rig("explain");
     let (status, out, _) = run(&dir, &["explain", "hang.txt", "rules.txt", "-p", "trusses"]);
-    let expected = "trusses: 2 places by a plan that the engine drew, cost 0
+    let expected = "trusses: 2 places by the plan that was picked, cost 0
 
 1. begin with every t -bolted-> p
 
 scan t -bolted-> p
 
-operator            rows                           cost
-scan t -bolted-> p     2 ########################     0
+operator            estimated  rows                           cost
+scan t -bolted-> p          2     2 ########################     0
 
 The cost counts the entries of neighbour lists that were looked up; the longest bar is the operator to change.
+The drawn plan is the same.
 ";
     assert_eq!((status, out.as_str()), (0, expected));
 }

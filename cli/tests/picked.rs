@@ -82,7 +82,7 @@ fn hang(kinds: &[usize], edges: &BTreeSet<Edge>) -> String {
 
 /// Random edges of labels from `first` on; items with low numbers have more of them.
 fn edges(r: &mut Numbers, count: usize, first: usize) -> BTreeSet<Edge> {
-    let mut end = |r: &mut Numbers| {
+    let end = |r: &mut Numbers| {
         let most = 1 + r.below(60);
         r.below(most)
     };
