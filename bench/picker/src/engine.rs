@@ -1,6 +1,6 @@
 //! Runs of the engine, timed, in scratch and list of about the words that they need.
 use crate::picker::{pack, Operator};
-use trace::{check_plan, run, Cache, Record, Refusal, Store};
+use rizhavaan::{check_plan, run, Cache, Record, Refusal, Store};
 
 #[repr(C)]
 struct Timespec {

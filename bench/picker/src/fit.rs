@@ -8,7 +8,7 @@ use picker_bench::picker::query::{Operator, Query};
 use picker_bench::picker::store::Store as Parts;
 use picker_bench::picker::time::{Part, Work, ALL, PARTS};
 use picker_bench::random::Random;
-use trace::Store;
+use rizhavaan::Store;
 
 /// Rows of an operator at most, and nanoseconds besides the store check at least: shorter runs are noise.
 const MOST_ROWS: usize = 400_000;

@@ -7,7 +7,7 @@ use picker_bench::picker::store::Store as Parts;
 use picker_bench::picker::{estimate, pack, pick, unpack, Picked, Statistics, MAX_WORDS};
 use picker_bench::random::Random;
 use std::ops::RangeInclusive;
-use trace::Store;
+use rizhavaan::Store;
 
 /// Buffers have at most so many words: plans that need more are not run.
 const MOST_WORDS: usize = 1 << 27;

@@ -8,7 +8,7 @@ use picker_bench::picker::need::Bounds;
 use picker_bench::picker::store::Store as Parts;
 use picker_bench::picker::{estimate, pack, pick, unpack, Operator, Statistics};
 use picker_bench::random::Random;
-use trace::{Buffers, Cache, Store};
+use rizhavaan::{Buffers, Cache, Store};
 
 /// Rows up to which a sample holds all, and entries up to which all are looked at.
 const WHOLE: u64 = 32;

@@ -6,7 +6,7 @@ use picker_bench::graphs::Graph;
 use picker_bench::picker::query::Query;
 use picker_bench::random::Random;
 use std::collections::BTreeSet;
-use trace::Store;
+use rizhavaan::Store;
 
 /// The graph with other edges of labels that a query does not name: a share of them taken away, and some
 /// drawn anew.

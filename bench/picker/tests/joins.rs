@@ -7,7 +7,7 @@ use picker_bench::patterns::{packed, ANY};
 use picker_bench::picker::query::{Edge, Filter, Query};
 use picker_bench::picker::{pick, Operator, Picked, Statistics, MAX_WORDS};
 use picker_bench::random::Random;
-use trace::{Buffers, Store};
+use rizhavaan::{Buffers, Store};
 
 const HUBS: usize = 20;
 const LEAVES: usize = 50_000;

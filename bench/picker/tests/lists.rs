@@ -6,7 +6,7 @@ use picker_bench::patterns::pattern;
 use picker_bench::picker::store::Store as Parts;
 use picker_bench::picker::Operator;
 use picker_bench::random::Random;
-use trace::{Buffers, Store};
+use rizhavaan::{Buffers, Store};
 
 /// 20,000 random queries over 4,000 random graphs, from none to 40 vertices.
 #[test]

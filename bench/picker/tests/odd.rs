@@ -8,7 +8,7 @@ use picker_bench::picker::query::{Edge, Filter, Query};
 use picker_bench::picker::store::Store as Parts;
 use picker_bench::picker::{pick, Picked, Statistics, MAX_WORDS};
 use picker_bench::random::Random;
-use trace::{Buffers, Store};
+use rizhavaan::{Buffers, Store};
 
 fn path(filters: [Filter; 3], labels: [u32; 2]) -> Query {
     let edges = vec![Edge { from: 0, to: 1, label: labels[0] }, Edge { from: 1, to: 2, label: labels[1] }];

@@ -6,7 +6,7 @@ use picker_bench::picker::query::Filter;
 use picker_bench::picker::store::{Direction, Store as Parts};
 use picker_bench::picker::Statistics;
 use picker_bench::random::Random;
-use trace::Store;
+use rizhavaan::Store;
 
 #[test]
 fn counts_by_labels_are_those_of_the_edges() {

@@ -8,7 +8,7 @@ use picker_bench::picker::drawn::drawn;
 use picker_bench::picker::{pack, pick, Picked, Statistics, MAX_WORDS};
 use picker_bench::random::Random;
 use std::collections::BTreeSet;
-use trace::{check_plan, Buffers, Cache, Store};
+use rizhavaan::{check_plan, Buffers, Cache, Store};
 
 /// What a random graph is like.
 #[derive(Clone, Copy)]
