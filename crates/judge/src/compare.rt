@@ -55,7 +55,14 @@ fn judge_scratch(store: &Store, files: &Files, ran: Ran, first: &List, tally: &m
 }
 
 // With the other cache setting the need is the same; a word less gives 20, also where the list is too short.
-fn judge_need(store: &Store, files: &Files, ran: Ran, need: usize, first: &List, tally: &mut Tally) {
+fn judge_need(
+    store: &Store,
+    files: &Files,
+    ran: Ran,
+    need: usize,
+    first: &List,
+    tally: &mut Tally,
+) {
     let mut w = ran.with;
     w.cache = !ran.with.cache;
     w.scratch = need;
