@@ -10,6 +10,7 @@ use judge::plan::{self, Operator};
 use judge::query::Query;
 use judge::random::each;
 use judge::worked::{diamond, g, graph, k, triangle};
+use rizhavaan::{Buffers, Cache, Store};
 use Operator::{Extend, Join, Scan};
 
 /// The path through so many vertices.
@@ -259,4 +260,20 @@ fn a_vertex_next_to_all_others() {
             }
         }
     });
+}
+
+/// A run over the largest graph, by extends of any label, a join and a list that is found twice, its store check included, in a megabyte of stack.
+#[test]
+fn a_megabyte_of_stack() {
+    let n = 65_535u16;
+    let edges = (1..n).flat_map(|t| [(t - 1, 1, t), (t - 1, 2, t)]).collect();
+    let store = Store::load(&Graph::new(vec![0; n.into()], edges).file()).unwrap();
+    let query = Query::any(8, &(1..8).map(|v| (v - 1, v)).collect::<Vec<_>>()).file();
+    let plan = plan::file(&[Scan(0), Extend(2), Extend(3), Extend(4), Scan(4), Extend(6), Extend(7), Join]);
+    let run = move || {
+        let mut buffers = Buffers::with_words(2_000_000, 8 * usize::from(n));
+        store.run_growing(&query, &plan, Cache::On, &mut buffers).map(|matches| matches.len())
+    };
+    let rows = std::thread::Builder::new().stack_size(1 << 20).spawn(run).unwrap().join().unwrap();
+    assert_eq!(rows, Ok(usize::from(n) - 7));
 }
