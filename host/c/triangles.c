@@ -79,7 +79,7 @@ int main(void)
     if (refusal == 0)
         refusal = rizhavaan_check_plan(query, sizeof query, plan, sizeof plan, &operators);
     if (refusal == 0)
-        refusal = rizhavaan_run(store, WORDS, query, sizeof query, plan, sizeof plan, true, scratch, 17, list, 6,
+        refusal = rizhavaan_run(store, WORDS, query, sizeof query, plan, sizeof plan, true, scratch, 6, list, 6,
                                 records, 2, &rows, &cost, &build, &probe);
     if (refusal != 0) {
         printf("refused %" PRIu32 "\n", refusal);
@@ -91,11 +91,11 @@ int main(void)
     for (uint64_t i = 0; i < operators; i++)
         printf("operator %" PRIu64 ": rows %" PRIu64 " cost %" PRIu64 "\n", i, records[i].rows, records[i].cost);
 
-    refusal = rizhavaan_run(store, WORDS, query, sizeof query, plan, sizeof plan, true, scratch, 16, list, 6,
+    refusal = rizhavaan_run(store, WORDS, query, sizeof query, plan, sizeof plan, true, scratch, 5, list, 6,
                             records, 2, &rows, &cost, &build, &probe);
-    printf("with 16 words of scratch: %s, rows %" PRIu64 "\n",
+    printf("with 5 words of scratch: %s, rows %" PRIu64 "\n",
            refusal == RIZHAVAAN_SCRATCH_SMALL ? "refused 20" : "accepted", rows);
-    refusal = rizhavaan_run(store, WORDS, query, sizeof query, plan, sizeof plan, true, scratch, 16, list, 6,
+    refusal = rizhavaan_run(store, WORDS, query, sizeof query, plan, sizeof plan, true, scratch, 5, list, 6,
                             records, 1, &rows, &cost, &build, &probe);
     printf("with 1 record: %s, rows %" PRIu64 "\n",
            refusal == RIZHAVAAN_RECORDS_SHORT ? "refused 22" : "accepted", rows);

@@ -16,8 +16,8 @@ pub const MAX_DRAWN_BYTES: usize = 6;
 /// The bytes of a page: 60 lines of 80 columns, each with a line feed.
 pub const PAGE_BYTES: usize = 4860;
 
-/// Whether an extend reuses the vertices that it found for the row just before, where it may. The rows are the same, and the
-/// cost with it on is no higher; the extend needs as many words of scratch more as the longest set of vertices it found has.
+/// Whether an extend reuses the vertices that it found for the row just before, where it may. The rows and the need are the same, and
+/// the cost with it on is no higher.
 #[derive(Clone, Copy, Debug, PartialEq, Eq, Hash)]
 pub enum Cache {
     /// Every row is looked up.
@@ -136,6 +136,10 @@ pub fn draw_plan_into(store: &[u32], query: &[u8], plan: &mut [u8]) -> Result<us
 /// Any words may stand for a store: those that no graph file loads to are refused. Refused, list and records are untouched;
 /// accepted, the words past the last row are, and the records past the last operator. The scratch, up to [`MAX_WORDS`], is zero
 /// afterwards in both cases.
+///
+/// Rows are streamed through the plan: the scratch holds a row and a set of vertices for each operator and all rows of a join's build side,
+/// but not the rows that are listed. `rizhavaan.h` has the need as sums. In a longer scratch, which has room for the rows too, they are found
+/// once and not twice.
 pub fn run(
     store: &[u32],
     query: &[u8],

@@ -54,7 +54,8 @@
 //! A [`Store`] owns the words of a graph. A run needs scratch, a list for its rows, and a record for each operator. [`run`] and
 //! [`Store::run`] borrow them from the caller and refuse a run for which they are too short; [`Store::run_growing`] makes scratch and
 //! list larger until the run fits, and has records for the longest plan.
-//! The scratch is zero after every run, refused ones too.
+//! The scratch is zero after every run, refused ones too. It does not hold the rows: but for a join's build side, a run needs little of it,
+//! whatever it lists.
 
 #![deny(unsafe_code)]
 #![warn(missing_docs)]

@@ -54,13 +54,14 @@ refusals! {
     ChangesFile = 27, "the change file has a wrong length, a fill bit set, an edge that no graph can have, or edges that do not ascend";
     ChangesEdge = 28, "a change adds an edge that is there, or takes one away that is not";
     ChangesMany = 29, "the changes would make more than 1,048,575 edges";
+    RunNumbers = 30, "a number that the run would answer or record is above 18,446,744,073,709,551,615";
     SheetRows = 33, "a row has not 2 to 8 words, the rows are too many or too many for their list, or a word is above 65,535";
     SheetPage = 34, "the page is not 1 to the page count";
     SheetBytes = 35, "the bytes are fewer than a page's";
 }
 
 impl Refusal {
-    /// Its number, 1 to 29 or 33 to 35; none has 23, which is not used again.
+    /// Its number, 1 to 30 or 33 to 35; none has 23, which is not used again.
     pub fn number(self) -> u32 {
         self as u32
     }
@@ -86,10 +87,10 @@ mod tests {
     #[test]
     fn numbers_are_in_order_without_23() {
         let numbers: Vec<u32> = Refusal::ALL.iter().map(|r| r.number()).collect();
-        assert_eq!(numbers, (1..=22).chain(24..=29).chain(33..=35).collect::<Vec<_>>());
+        assert_eq!(numbers, (1..=22).chain(24..=30).chain(33..=35).collect::<Vec<_>>());
         assert_eq!(Refusal::from_number(20), Some(Refusal::ScratchSmall));
         assert_eq!(Refusal::from_number(0), None);
         assert_eq!(Refusal::from_number(23), None);
-        assert_eq!(Refusal::from_number(30), None);
+        assert_eq!(Refusal::from_number(31), None);
     }
 }

@@ -116,8 +116,11 @@ impl Store {
         Ok(Matches::new(query, plan, answer, list, records))
     }
 
-    /// Runs a plan in buffers that grow until it fits, up to [`MAX_WORDS`] words each. A run that is refused for want of room is
-    /// made again from its start, in twice the room; the buffers keep their size for the next run.
+    /// Runs a plan in buffers that grow until it fits, up to [`MAX_WORDS`] words each; they keep their size for the next run.
+    ///
+    /// A run that is refused for want of room is made again from its start: with twice the scratch, which a run needs little of and which
+    /// is refused as soon as the need passes it; or with eight times the list, whose want is told only after all rows are counted. What a
+    /// list has too many takes no memory, as long as nothing was written there.
     pub fn run_growing<'b>(
         &self,
         query: &[u8],
@@ -141,17 +144,19 @@ impl Store {
     ) -> Result<Run, Refusal> {
         loop {
             match run(&self.words, query, plan, cache, scratch, list, records) {
-                Err(Refusal::ScratchSmall) if scratch.len() < MAX_WORDS => grow(scratch),
-                Err(Refusal::ListSmall) if list.len() < MAX_WORDS => grow(list),
+                Err(Refusal::ScratchSmall) if scratch.len() < MAX_WORDS => grow(scratch, 2),
+                Err(Refusal::ListSmall) if list.len() < MAX_WORDS => grow(list, 8),
                 answer => return answer,
             }
         }
     }
 }
 
-fn grow(buffer: &mut Vec<u32>) {
-    let words = (2 * buffer.len()).clamp(1024, MAX_WORDS);
-    buffer.resize(words, 0);
+/// So many times the words, all of them zero: what the buffer held is not kept.
+fn grow(buffer: &mut Vec<u32>, times: usize) {
+    let words = (times * buffer.len()).clamp(1024, MAX_WORDS);
+    *buffer = Vec::new();
+    *buffer = vec![0; words];
 }
 
 /// Scratch and list for runs, grown as they ask for it, records for the longest plan, and the plan that was drawn last.

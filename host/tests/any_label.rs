@@ -2,7 +2,7 @@
 mod judge;
 
 use judge::calls::Ran;
-use judge::cases::{case, hold, run, Worked};
+use judge::cases::{case, hold, joined, run, Worked};
 use judge::graph::Graph;
 use judge::matcher::Matcher;
 use judge::plan::{self, Operator};
@@ -19,13 +19,13 @@ fn worked() -> Vec<Worked> {
     let both = || Query::new(vec![0; 2], vec![(0, 1, 0), (0, 1, 2)]);
     vec![
         // Seven edges join five pairs.
-        case(doubled(), pair(), &[Scan(0)], &[0, 1, 0, 2, 1, 2, 1, 3, 2, 3], [0, 0], [10, 10]),
+        case(doubled(), pair(), &[Scan(0)], &[0, 1, 0, 2, 1, 2, 1, 3, 2, 3], [0, 0], 2),
         // Forward lists of 3, 3, 1 and 0 entries: 3+3, 3+1, 3+1, 3+0, 1+0.
-        case(doubled(), triangle(), &[Scan(0), Extend(2)], &[0, 1, 2, 1, 2, 3], [18, 18], [16, 17]),
+        case(doubled(), triangle(), &[Scan(0), Extend(2)], &[0, 1, 2, 1, 2, 3], [18, 18], 2 + 3 + 1),
         // Backward lists of 0, 2, 3 and 2 entries: 0+2, 0+3, 2+3, 2+2, 3+2.
-        case(doubled(), triangle(), &[Scan(2), Extend(0)], &[0, 1, 2, 1, 2, 3], [19, 19], [16, 17]),
+        case(doubled(), triangle(), &[Scan(2), Extend(0)], &[0, 1, 2, 1, 2, 3], [19, 19], 2 + 3 + 1),
         // A forward and a backward list: 3+2, 3+3, 3+3, 3+2, 1+2.
-        case(doubled(), triangle(), &[Scan(1), Extend(1)], &[0, 1, 2, 1, 2, 3], [25, 25], [16, 17]),
+        case(doubled(), triangle(), &[Scan(1), Extend(1)], &[0, 1, 2, 1, 2, 3], [25, 25], 2 + 3 + 1),
         // Vertex 1 has 2 and 3 in ascending order, whatever their labels; each is one of its set, though 2 has two edges. The
         // vertices used are 1, 2, 2, 3, 3.
         case(
@@ -34,24 +34,24 @@ fn worked() -> Vec<Worked> {
             &[Scan(0), Extend(2)],
             &[0, 1, 2, 0, 1, 3, 0, 2, 3, 1, 2, 3],
             [3 + 1 + 1, 3 + 1],
-            [10 + 12, 10 + 12 + 2],
+            2 + 3 + 2,
         ),
         // Both sides of the join have each pair once.
-        Worked {
-            build: 5,
-            probe: 5,
-            ..case(
+        joined(
+            5,
+            5,
+            case(
                 doubled(),
                 path(),
                 &[Scan(0), Scan(1), Join],
                 &[0, 1, 2, 0, 1, 3, 0, 2, 3, 1, 2, 3],
                 [0, 0],
-                [10 + 10 + 12 + 5 + 8; 2],
-            )
-        },
+                10 + 5 + 8 + 2 + 3,
+            ),
+        ),
         // An edge of any label and one of label 2 join the same pair: both are tested, whichever is scanned.
-        case(doubled(), both(), &[Scan(0)], &[0, 1, 1, 2, 2, 3], [0, 0], [6, 6]),
-        case(doubled(), both(), &[Scan(1)], &[0, 1, 1, 2, 2, 3], [0, 0], [6, 6]),
+        case(doubled(), both(), &[Scan(0)], &[0, 1, 1, 2, 2, 3], [0, 0], 2),
+        case(doubled(), both(), &[Scan(1)], &[0, 1, 1, 2, 2, 3], [0, 0], 2),
         // The rows (0, 1), (0, 2) and (1, 3) are extended by a whole list and the portion of label 3: 3+1, 1+0, 0+0.
         case(
             doubled(),
@@ -59,10 +59,10 @@ fn worked() -> Vec<Worked> {
             &[Scan(0), Extend(2)],
             &[0, 1, 2],
             [5, 5],
-            [6 + 3, 6 + 3 + 1],
+            2 + 3 + 1,
         ),
         // Both directions of a pair: of no pair here.
-        case(doubled(), Query::any(2, &[(0, 1), (1, 0)]), &[Scan(0)], &[], [0, 0], [0, 0]),
+        case(doubled(), Query::any(2, &[(0, 1), (1, 0)]), &[Scan(0)], &[], [0, 0], 2),
         // Vertex labels are tested as ever: query vertex 1 is to have label 5.
         case(
             Graph { labels: vec![0, 5, 0, 5], ..doubled() },
@@ -70,12 +70,12 @@ fn worked() -> Vec<Worked> {
             &[Scan(0)],
             &[0, 1, 1, 3, 2, 3],
             [0, 0],
-            [6, 6],
+            2,
         ),
         // 255 labels, one row, and all of the list in the cost. Where the far end is taken, no row is left.
-        case(bundle(), pair(), &[Scan(0)], &[0, 1], [0, 0], [2, 2]),
-        case(bundle(), Query::any(3, &[(0, 1), (0, 2)]), &[Scan(0), Extend(2)], &[], [255, 255], [2, 3]),
-        case(bundle(), Query::any(3, &[(0, 1), (2, 1)]), &[Scan(0), Extend(2)], &[], [255, 255], [2, 3]),
+        case(bundle(), pair(), &[Scan(0)], &[0, 1], [0, 0], 2),
+        case(bundle(), Query::any(3, &[(0, 1), (0, 2)]), &[Scan(0), Extend(2)], &[], [255, 255], 2 + 3 + 1),
+        case(bundle(), Query::any(3, &[(0, 1), (2, 1)]), &[Scan(0), Extend(2)], &[], [255, 255], 2 + 3 + 1),
         // Two far ends: each row takes the other one.
         case(
             two_bundles(),
@@ -83,7 +83,7 @@ fn worked() -> Vec<Worked> {
             &[Scan(0), Extend(2)],
             &[0, 1, 2, 0, 2, 1],
             [2 * 510, 510],
-            [4 + 6, 4 + 6 + 2],
+            2 + 3 + 2,
         ),
         // The most edges that a query has: the whole list and the portions of labels 1 to 22.
         case(
@@ -92,12 +92,12 @@ fn worked() -> Vec<Worked> {
             &[Scan(0), Extend(2)],
             &[0, 1, 2, 0, 2, 1],
             [2 * (510 + 44), 510 + 44],
-            [4 + 6, 4 + 6 + 2],
+            2 + 3 + 2,
         ),
         // A vertex that two labels join to itself.
-        case(Graph::new(vec![0], vec![(0, 1, 0), (0, 9, 0)]), triangle(), &[Scan(0), Extend(2)], &[], [0, 0], [0, 0]),
-        case(graph(2, &[]), triangle(), &[Scan(0), Extend(2)], &[], [0, 0], [0, 0]),
-        case(graph(0, &[]), triangle(), &[Scan(0), Extend(2)], &[], [0, 0], [0, 0]),
+        case(Graph::new(vec![0], vec![(0, 1, 0), (0, 9, 0)]), triangle(), &[Scan(0), Extend(2)], &[], [0, 0], 2 + 3),
+        case(graph(2, &[]), triangle(), &[Scan(0), Extend(2)], &[], [0, 0], 2 + 3),
+        case(graph(0, &[]), triangle(), &[Scan(0), Extend(2)], &[], [0, 0], 2 + 3),
     ]
 }
 

@@ -2,7 +2,7 @@
 mod judge;
 
 use judge::calls::Ran;
-use judge::cases::{case, hold, run, Worked};
+use judge::cases::{case, hold, joined as sums, run, Worked};
 use judge::graph::Graph;
 use judge::matcher::Matcher;
 use judge::plan::{self, Operator};
@@ -38,7 +38,7 @@ fn fan(days: [u16; 7]) -> Graph {
 
 /// The pairs of G are 0→1, 0→2, 1→2, 1→3 and 2→3.
 fn scanned() -> Vec<Worked> {
-    let scanned = |query, rows: &[u32]| case(dated(), query, &[Scan(0)], rows, [0, 0], [rows.len(); 2]);
+    let scanned = |query, rows: &[u32]| case(dated(), query, &[Scan(0)], rows, [0, 0], 2);
     vec![
         scanned(pair(EVER, EVER), &[0, 1, 0, 2, 1, 2, 1, 3, 2, 3]),
         // Both ends of a range belong to it.
@@ -56,8 +56,8 @@ fn scanned() -> Vec<Worked> {
         scanned(pair((0, 5), (9, 9)), &[0, 2, 1, 2]),
         scanned(pair((9, 9), (0, 9)), &[]),
         // Where the graph has no days.
-        case(g(), pair((0, 0), (0, 65_535)), &[Scan(0)], &[0, 1, 0, 2, 1, 2, 1, 3, 2, 3], [0, 0], [10, 10]),
-        case(g(), pair((1, 65_535), EVER), &[Scan(0)], &[], [0, 0], [0, 0]),
+        case(g(), pair((0, 0), (0, 65_535)), &[Scan(0)], &[0, 1, 0, 2, 1, 2, 1, 3, 2, 3], [0, 0], 2),
+        case(g(), pair((1, 65_535), EVER), &[Scan(0)], &[], [0, 0], 2),
         // Of two labels or of any, a pair is one row.
         case(
             doubled().dated(vec![0, 1, 2, 3]),
@@ -65,7 +65,7 @@ fn scanned() -> Vec<Worked> {
             &[Scan(0)],
             &[0, 2, 1, 2],
             [0, 0],
-            [4, 4],
+            2,
         ),
         // Label and day.
         case(
@@ -74,7 +74,7 @@ fn scanned() -> Vec<Worked> {
             &[Scan(0)],
             &[1, 3, 2, 3],
             [0, 0],
-            [4, 4],
+            2,
         ),
     ]
 }
@@ -83,10 +83,10 @@ fn extended() -> Vec<Worked> {
     let two = [Scan(0), Extend(2)];
     vec![
         // All five pairs are extended, at the cost that they have without days.
-        case(dated(), triangle().inspected(&[EVER, EVER, (9, 9)]), &two, &[0, 1, 2], [13, 13], [10 + 3, 10 + 3 + 1]),
-        case(dated(), triangle().inspected(&[EVER, EVER, (0, 8)]), &two, &[], [13, 13], [10, 10]),
+        case(dated(), triangle().inspected(&[EVER, EVER, (9, 9)]), &two, &[0, 1, 2], [13, 13], 2 + 3 + 1),
+        case(dated(), triangle().inspected(&[EVER, EVER, (0, 8)]), &two, &[], [13, 13], 2 + 3),
         // Vertex 0 begins no pair: 2+1, 2+0, 1+0.
-        case(dated(), triangle().inspected(&[(1, 65_535), EVER, EVER]), &two, &[1, 2, 3], [6, 6], [6 + 3, 6 + 3 + 1]),
+        case(dated(), triangle().inspected(&[(1, 65_535), EVER, EVER]), &two, &[1, 2, 3], [6, 6], 2 + 3 + 1),
         // Three motors on a pin, of days 1, 2 and 3. The first is to have one of 1 to 2, the second one of 2 to 3: the set 2, 3 is kept,
         // and the second row strikes 2 from it.
         case(
@@ -95,13 +95,13 @@ fn extended() -> Vec<Worked> {
             &two,
             &[0, 1, 2, 0, 1, 3, 0, 2, 3],
             [3 + 3, 3],
-            [4 + 9, 4 + 9 + 2],
+            2 + 3 + 2,
         ),
-        case(graph(0, &[]), triangle().inspected(&[(3, 4); 3]), &two, &[], [0, 0], [0, 0]),
+        case(graph(0, &[]), triangle().inspected(&[(3, 4); 3]), &two, &[], [0, 0], 2 + 3),
     ]
 }
 
-/// The set that is kept with the cache on holds only what fits by label and day.
+/// A set holds only what fits by label and day.
 fn kept_sets() -> Vec<Worked> {
     let two = [Scan(0), Extend(2)];
     vec![
@@ -112,17 +112,10 @@ fn kept_sets() -> Vec<Worked> {
             &two,
             &[0, 1, 4, 0, 1, 5, 0, 1, 6, 0, 2, 4, 0, 3, 4],
             [5, 5],
-            [6 + 15, 6 + 15 + 3],
+            2 + 3 + 3,
         ),
         // Of the first set only 4 has the day: sets of 1, 1 and 1.
-        case(
-            fan([0, 0, 0, 0, 5, 4, 6]),
-            two_labels((5, 5)),
-            &two,
-            &[0, 1, 4, 0, 2, 4, 0, 3, 4],
-            [5, 5],
-            [6 + 9, 6 + 9 + 1],
-        ),
+        case(fan([0, 0, 0, 0, 5, 4, 6]), two_labels((5, 5)), &two, &[0, 1, 4, 0, 2, 4, 0, 3, 4], [5, 5], 2 + 3 + 1),
         // 4 has not the day, 5 not the label.
         case(
             Graph { labels: vec![0, 0, 0, 0, 7, 8, 7], ..fan([0, 0, 0, 0, 4, 5, 5]) },
@@ -130,10 +123,10 @@ fn kept_sets() -> Vec<Worked> {
             &two,
             &[0, 1, 6],
             [5, 5],
-            [6 + 3, 6 + 3 + 1],
+            2 + 3 + 1,
         ),
         // No set has anything.
-        case(fan([0; 7]), two_labels((1, 65_535)), &two, &[], [5, 5], [6, 6]),
+        case(fan([0; 7]), two_labels((1, 65_535)), &two, &[], [5, 5], 2 + 3),
         // 1 leads to 0 alone, which the row has already: it is in the set where its day fits the third vertex.
         case(
             Graph::new(vec![0; 3], vec![(0, 1, 1), (0, 1, 2), (1, 2, 0)]).dated(vec![5, 0, 0]),
@@ -141,7 +134,7 @@ fn kept_sets() -> Vec<Worked> {
             &two,
             &[],
             [1, 1],
-            [4, 4 + 1],
+            2 + 3 + 1,
         ),
         case(
             Graph::new(vec![0; 3], vec![(0, 1, 1), (0, 1, 2), (1, 2, 0)]).dated(vec![6, 0, 0]),
@@ -149,7 +142,7 @@ fn kept_sets() -> Vec<Worked> {
             &two,
             &[],
             [1, 1],
-            [4, 4],
+            2 + 3,
         ),
     ]
 }
@@ -161,13 +154,9 @@ fn joined() -> Vec<Worked> {
     let join = [Scan(0), Scan(1), Join];
     vec![
         // The shared vertex is tested on both sides.
-        Worked { build: 1, probe: 1, ..case(ways(), path((6, 9)), &join, &[0, 3, 2], [0, 0], [2 + 2 + 3 + 1 + 1; 2]) },
-        Worked {
-            build: 2,
-            probe: 2,
-            ..case(ways(), path((5, 6)), &join, &[0, 1, 2, 0, 3, 2], [0, 0], [4 + 4 + 6 + 2 + 2; 2])
-        },
-        case(ways(), path((7, 7)), &join, &[], [0, 0], [1, 1]),
+        sums(1, 1, case(ways(), path((6, 9)), &join, &[0, 3, 2], [0, 0], 2 + 1 + 1 + 2 + 3)),
+        sums(2, 2, case(ways(), path((5, 6)), &join, &[0, 1, 2, 0, 3, 2], [0, 0], 4 + 2 + 2 + 2 + 3)),
+        case(ways(), path((7, 7)), &join, &[], [0, 0], 1 + 2 + 3),
     ]
 }
 

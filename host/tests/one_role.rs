@@ -1,7 +1,7 @@
 //! Different query vertices take different data vertices: cases worked by hand. Each is run in every scratch up to its need.
 mod judge;
 
-use judge::cases::{case, hold, Worked};
+use judge::cases::{case, hold, joined, Worked};
 use judge::graph::{Edge, Graph};
 use judge::plan::Operator;
 use judge::query::Query;
@@ -47,9 +47,9 @@ fn fan(labels: Vec<u16>, ends: &[u16]) -> Graph {
 fn struck_by_scans() -> Vec<Worked> {
     let loops = || graph(2, &[(0, 0), (0, 1), (1, 0), (1, 1)]);
     vec![
-        case(loops(), Query::plain(2, &[(0, 1)]), &[Scan(0)], &[0, 1, 1, 0], [0, 0], [4, 4]),
-        case(loops(), Query::plain(2, &[(0, 1), (1, 0)]), &[Scan(1)], &[1, 0, 0, 1], [0, 0], [4, 4]),
-        case(loops(), Query::any(2, &[(0, 1)]), &[Scan(0)], &[0, 1, 1, 0], [0, 0], [4, 4]),
+        case(loops(), Query::plain(2, &[(0, 1)]), &[Scan(0)], &[0, 1, 1, 0], [0, 0], 2),
+        case(loops(), Query::plain(2, &[(0, 1), (1, 0)]), &[Scan(1)], &[1, 0, 0, 1], [0, 0], 2),
+        case(loops(), Query::any(2, &[(0, 1)]), &[Scan(0)], &[0, 1, 1, 0], [0, 0], 2),
         // The one-vertex case of the document.
         case(
             graph(1, &[(0, 0)]),
@@ -57,7 +57,7 @@ fn struck_by_scans() -> Vec<Worked> {
             &[Scan(0), Extend(2)],
             &[],
             [0, 0],
-            [0, 0],
+            2 + 3,
         ),
     ]
 }
@@ -69,8 +69,8 @@ fn struck_by_extends() -> Vec<Worked> {
     let turned: [u32; 64] = std::array::from_fn(|i| ((i / 8 + i % 8) % 8) as u32);
     vec![
         // Two motors on one pin, and one alone. A set is kept with all its vertices: the first row strikes 1 from it, the second 2.
-        case(pin(2), star(3), &[Scan(0), Extend(2)], &[0, 1, 2, 0, 2, 1], [4, 2], [4 + 6, 4 + 6 + 2]),
-        case(pin(1), star(3), &[Scan(0), Extend(2)], &[], [1, 1], [2, 2 + 1]),
+        case(pin(2), star(3), &[Scan(0), Extend(2)], &[0, 1, 2, 0, 2, 1], [4, 2], 2 + 3 + 2),
+        case(pin(1), star(3), &[Scan(0), Extend(2)], &[], [1, 1], 2 + 3 + 1),
         // Three motors: every order of them. Then a pattern of four.
         case(
             pin(3),
@@ -78,7 +78,7 @@ fn struck_by_extends() -> Vec<Worked> {
             &[Scan(0), Extend(2), Extend(3)],
             &[0, 1, 2, 3, 0, 1, 3, 2, 0, 2, 1, 3, 0, 2, 3, 1, 0, 3, 1, 2, 0, 3, 2, 1],
             [9 + 18, 3 + 3],
-            [18 + 24, 18 + 24 + 3],
+            2 + (3 + 3) + (4 + 3),
         ),
         case(
             pin(3),
@@ -86,12 +86,12 @@ fn struck_by_extends() -> Vec<Worked> {
             &[Scan(0), Extend(2), Extend(3), Extend(4)],
             &[],
             [9 + 18 + 18, 3 + 3 + 3],
-            [18 + 24, 18 + 24 + 3],
+            2 + (3 + 3) + (4 + 3) + (5 + 3),
         ),
         // The vertex of a column that no edge leads to: the row (0, 1) has the set 0, 2.
-        case(back(), path(3), &[Scan(0), Extend(2)], &[0, 1, 2], [2 + 1, 2 + 1], [6 + 3, 6 + 3 + 2]),
+        case(back(), path(3), &[Scan(0), Extend(2)], &[0, 1, 2], [2 + 1, 2 + 1], 2 + 3 + 2),
         // The rows (1, 0) and (1, 2) of vertices 1 and 2 have the set 0; the first strikes it, the second takes it.
-        case(back(), path(3), &[Scan(1), Extend(0)], &[0, 1, 2], [1 + 1 + 1, 1 + 1], [6 + 3, 6 + 3 + 1]),
+        case(back(), path(3), &[Scan(1), Extend(0)], &[0, 1, 2], [1 + 1 + 1, 1 + 1], 2 + 3 + 1),
         // Seven in a ring are no path of eight: the last extend, by either end, finds the vertex of the other one.
         case(
             ring(7),
@@ -99,7 +99,7 @@ fn struck_by_extends() -> Vec<Worked> {
             &[Scan(0), Extend(2), Extend(3), Extend(4), Extend(5), Extend(6), Extend(7)],
             &[],
             [6 * 7; 2],
-            [7 * 6 + 7 * 7, 7 * 6 + 7 * 7 + 1],
+            2 + (3 + 4 + 5 + 6 + 7 + 8) + 6,
         ),
         case(
             ring(7),
@@ -107,7 +107,7 @@ fn struck_by_extends() -> Vec<Worked> {
             &[Scan(6), Extend(5), Extend(4), Extend(3), Extend(2), Extend(1), Extend(0)],
             &[],
             [6 * 7; 2],
-            [7 * 6 + 7 * 7, 7 * 6 + 7 * 7 + 1],
+            2 + (3 + 4 + 5 + 6 + 7 + 8) + 6,
         ),
         case(
             ring(8),
@@ -115,7 +115,7 @@ fn struck_by_extends() -> Vec<Worked> {
             &[Scan(0), Extend(2), Extend(3), Extend(4), Extend(5), Extend(6), Extend(7)],
             &turned,
             [6 * 8; 2],
-            [8 * 7 + 8 * 8, 8 * 7 + 8 * 8 + 1],
+            2 + (3 + 4 + 5 + 6 + 7 + 8) + 6,
         ),
         // Edges beyond the pattern's are allowed: three vertices joined both ways.
         case(
@@ -124,13 +124,12 @@ fn struck_by_extends() -> Vec<Worked> {
             &[Scan(0), Extend(2)],
             &[0, 1, 2, 0, 2, 1, 1, 0, 2, 1, 2, 0, 2, 0, 1, 2, 1, 0],
             [12, 12],
-            [12 + 18, 12 + 18 + 2],
+            2 + 3 + 2,
         ),
     ]
 }
 
 fn struck_by_joins() -> Vec<Worked> {
-    let joined = |build, probe, worked| Worked { build, probe, ..worked };
     vec![
         // (1, 0) with (0, 1), and (0, 1) with (1, 0), come back to where they began.
         joined(
@@ -142,21 +141,14 @@ fn struck_by_joins() -> Vec<Worked> {
                 &[Scan(0), Scan(1), Join],
                 &[0, 1, 2],
                 [0, 0],
-                [6 + 6 + 3 + 3 + 4; 2],
+                6 + 3 + 4 + 2 + 3,
             ),
         ),
         // Build rows 0 1 2, 1 2 3, 2 3 0, 3 0 1 of vertices 0, 1, 2 and the same as probe rows of 2, 3, 4: the last would be the first.
         joined(
             4,
             4,
-            case(
-                ring(4),
-                path(5),
-                &[Scan(0), Extend(2), Scan(2), Extend(4), Join],
-                &[],
-                [8, 8],
-                [12 + 12 + 4 + 4, 12 + 8 + 12 + 1],
-            ),
+            case(ring(4), path(5), &[Scan(0), Extend(2), Scan(2), Extend(4), Join], &[], [8, 8], 12 + 4 + 4 + 6 + 5),
         ),
         // Of five in the ring, all begin somewhere.
         joined(
@@ -168,7 +160,7 @@ fn struck_by_joins() -> Vec<Worked> {
                 &[Scan(0), Extend(2), Scan(2), Extend(4), Join],
                 &[3, 4, 0, 1, 2, 4, 0, 1, 2, 3, 0, 1, 2, 3, 4, 1, 2, 3, 4, 0, 2, 3, 4, 0, 1],
                 [10, 10],
-                [15 + 15 + 25 + 5 + 8; 2],
+                15 + 5 + 8 + 6 + 5,
             ),
         ),
     ]
@@ -178,14 +170,14 @@ fn struck_by_joins() -> Vec<Worked> {
 fn longest_sets() -> Vec<Worked> {
     let three = [Scan(0), Extend(2)];
     vec![
-        // Sets of 3, 1 and 1. While the first is kept, 6 + 9 + 3 words are used, and 6 + 15 + 1 at the end.
+        // Sets of 3, 1 and 1.
         case(
             fan(vec![0; 7], &[3, 1, 1]),
             two_labels(),
             &three,
             &[0, 1, 4, 0, 1, 5, 0, 1, 6, 0, 2, 4, 0, 3, 4],
             [5, 5],
-            [6 + 15, 6 + 15 + 3],
+            2 + 3 + 3,
         ),
         // The longest comes last.
         case(
@@ -194,7 +186,7 @@ fn longest_sets() -> Vec<Worked> {
             &three,
             &[0, 1, 4, 0, 2, 4, 0, 3, 4, 0, 3, 5, 0, 3, 6],
             [5, 5],
-            [6 + 15, 6 + 15 + 3],
+            2 + 3 + 3,
         ),
         // The only set there is gives no row: 1 leads to 0 alone, and 2 to nothing.
         case(
@@ -203,7 +195,7 @@ fn longest_sets() -> Vec<Worked> {
             &three,
             &[],
             [1, 1],
-            [4, 4 + 1],
+            2 + 3 + 1,
         ),
         // Vertex labels are tested before the set is counted: of three only 4 has label 5.
         case(
@@ -212,16 +204,16 @@ fn longest_sets() -> Vec<Worked> {
             &three,
             &[0, 1, 4],
             [3, 3],
-            [2 + 3, 2 + 3 + 1],
+            2 + 3 + 1,
         ),
-        // Each extend has its own longest set: 2 beside 2 + 6 words, and 1 beside 6 + 8.
+        // Each extend has its own longest set: 2, and 1.
         case(
             Graph::new(vec![0; 7], vec![(0, 1, 1), (1, 2, 3), (1, 2, 4), (3, 3, 5), (4, 3, 6)]),
             Query::new(vec![0; 4], vec![(0, 1, 1), (1, 2, 2), (2, 3, 3)]),
             &[Scan(0), Extend(2), Extend(3)],
             &[0, 1, 3, 5, 0, 1, 4, 6],
             [2 + 2, 2 + 2],
-            [6 + 8, 6 + 8 + 1],
+            2 + (3 + 2) + (4 + 1),
         ),
     ]
 }

@@ -1,7 +1,7 @@
 //! Pairs of query vertices, of which the first is to have the lower number: cases worked by hand, and runs with pairs beside runs without.
 mod judge;
 
-use judge::cases::{case, hold, run, Worked};
+use judge::cases::{case, hold, joined as sums, run, Worked};
 use judge::graph::Graph;
 use judge::matcher::Matcher;
 use judge::plan::{self, Operator};
@@ -46,7 +46,7 @@ fn scanned() -> Vec<Worked> {
     let edge = || Query::plain(2, &[(0, 1)]);
     let both = || Query::plain(2, &[(0, 1), (1, 0)]);
     let scanned = |query: Query, pairs: &[Pair], edge, rows: &[u32]| {
-        case(line(), query.paired(pairs), &[Scan(edge)], rows, [0, 0], [rows.len(); 2])
+        case(line(), query.paired(pairs), &[Scan(edge)], rows, [0, 0], 2)
     };
     vec![
         scanned(edge(), &[], 0, &[0, 1, 1, 0, 1, 2, 2, 1]),
@@ -60,64 +60,57 @@ fn scanned() -> Vec<Worked> {
         // A contradiction is no fault.
         scanned(edge(), &[(0, 1), (1, 0)], 0, &[]),
         // No edge runs upward, or all do.
-        case(g(), edge().paired(&[(1, 0)]), &[Scan(0)], &[], [0, 0], [0, 0]),
-        case(g(), edge().paired(&[(0, 1)]), &[Scan(0)], &[0, 1, 0, 2, 1, 2, 1, 3, 2, 3], [0, 0], [10, 10]),
+        case(g(), edge().paired(&[(1, 0)]), &[Scan(0)], &[], [0, 0], 2),
+        case(g(), edge().paired(&[(0, 1)]), &[Scan(0)], &[0, 1, 0, 2, 1, 2, 1, 3, 2, 3], [0, 0], 2),
         // An edge from a vertex to itself: equal is not below.
-        case(graph(1, &[(0, 0)]), edge().paired(&[(0, 1)]), &[Scan(0)], &[], [0, 0], [0, 0]),
+        case(graph(1, &[(0, 0)]), edge().paired(&[(0, 1)]), &[Scan(0)], &[], [0, 0], 2),
     ]
 }
 
 /// Three slings: a row of the scan costs 2 + 2, and its set has one vertex.
 fn extended() -> Vec<Worked> {
-    let turns = |pairs: &[Pair], rows: &[u32], cost, need: [usize; 2]| {
+    let turns = |pairs: &[Pair], rows: &[u32], cost, need| {
         case(clique(3), triangle().paired(pairs), &[Scan(0), Extend(2)], rows, [cost; 2], need)
     };
     let six = [0, 1, 2, 0, 2, 1, 1, 0, 2, 1, 2, 0, 2, 0, 1, 2, 1, 0];
     vec![
-        turns(&[], &six, 24, [12 + 18, 12 + 18 + 1]),
+        turns(&[], &six, 24, 2 + 3 + 1),
         // Tested by the scan, which leaves half its rows; by the extend alone; by both.
-        turns(&[(0, 1)], &[0, 1, 2, 0, 2, 1, 1, 2, 0], 12, [6 + 9, 6 + 9 + 1]),
-        turns(&[(1, 2)], &[0, 1, 2, 1, 0, 2, 2, 0, 1], 24, [12 + 9, 12 + 9 + 1]),
-        turns(&[(2, 0)], &[1, 2, 0, 2, 0, 1, 2, 1, 0], 24, [12 + 9, 12 + 9 + 1]),
-        turns(&[(0, 1), (1, 2)], &[0, 1, 2], 12, [6 + 3, 6 + 3 + 1]),
-        turns(&[(1, 0), (2, 1)], &[2, 1, 0], 12, [6 + 3, 6 + 3 + 1]),
+        turns(&[(0, 1)], &[0, 1, 2, 0, 2, 1, 1, 2, 0], 12, 2 + 3 + 1),
+        turns(&[(1, 2)], &[0, 1, 2, 1, 0, 2, 2, 0, 1], 24, 2 + 3 + 1),
+        turns(&[(2, 0)], &[1, 2, 0, 2, 0, 1, 2, 1, 0], 24, 2 + 3 + 1),
+        turns(&[(0, 1), (1, 2)], &[0, 1, 2], 12, 2 + 3 + 1),
+        turns(&[(1, 0), (2, 1)], &[2, 1, 0], 12, 2 + 3 + 1),
         // One vertex above both others, and below them.
-        turns(&[(0, 2), (1, 2)], &[0, 1, 2, 1, 0, 2], 24, [12 + 6, 12 + 6 + 1]),
-        turns(&[(2, 0), (2, 1)], &[1, 2, 0, 2, 1, 0], 24, [12 + 6, 12 + 6 + 1]),
+        turns(&[(0, 2), (1, 2)], &[0, 1, 2, 1, 0, 2], 24, 2 + 3 + 1),
+        turns(&[(2, 0), (2, 1)], &[1, 2, 0, 2, 1, 0], 24, 2 + 3 + 1),
         // A pair that follows from others.
-        turns(&[(0, 1), (0, 2), (1, 2)], &[0, 1, 2], 12, [6 + 3, 6 + 3 + 1]),
+        turns(&[(0, 1), (0, 2), (1, 2)], &[0, 1, 2], 12, 2 + 3 + 1),
         // Contradictions, known to the scan, to the extend, and in a circle.
-        turns(&[(0, 1), (1, 0)], &[], 0, [0, 0]),
-        turns(&[(0, 2), (2, 0)], &[], 24, [12, 12 + 1]),
-        turns(&[(0, 1), (1, 2), (2, 0)], &[], 12, [6, 6 + 1]),
-        turns(&[(0, 1), (0, 2), (1, 0), (1, 2), (2, 0), (2, 1)], &[], 0, [0, 0]),
+        turns(&[(0, 1), (1, 0)], &[], 0, 2 + 3),
+        turns(&[(0, 2), (2, 0)], &[], 24, 2 + 3 + 1),
+        turns(&[(0, 1), (1, 2), (2, 0)], &[], 12, 2 + 3 + 1),
+        turns(&[(0, 1), (0, 2), (1, 0), (1, 2), (2, 0), (2, 1)], &[], 0, 2 + 3),
     ]
 }
 
-/// The set that is kept with the cache on is that before pairs: a later row that reuses it has other vertices to compare with.
+/// A set is that before pairs: it counts as it is found, and a later row that reuses it has other vertices to compare with.
 fn kept_sets() -> Vec<Worked> {
     let two = [Scan(0), Extend(2)];
     let three = [Scan(0), Extend(2), Extend(3)];
     let hub = || graph(4, &[(2, 0), (2, 1), (2, 3)]);
     vec![
         // The set 1, 2, 3 of the pin serves all three motors.
-        case(pin(3), star(3).paired(&[(1, 2)]), &two, &[0, 1, 2, 0, 1, 3, 0, 2, 3], [9, 3], [6 + 9, 6 + 9 + 3]),
-        case(pin(3), star(3).paired(&[(2, 1)]), &two, &[0, 2, 1, 0, 3, 1, 0, 3, 2], [9, 3], [6 + 9, 6 + 9 + 3]),
+        case(pin(3), star(3).paired(&[(1, 2)]), &two, &[0, 1, 2, 0, 1, 3, 0, 2, 3], [9, 3], 2 + 3 + 3),
+        case(pin(3), star(3).paired(&[(2, 1)]), &two, &[0, 2, 1, 0, 3, 1, 0, 3, 2], [9, 3], 2 + 3 + 3),
         // All of it is dropped, and it counts.
-        case(pin(3), star(3).paired(&[(2, 0)]), &two, &[], [9, 3], [6, 6 + 3]),
-        case(pin(3), star(3).paired(&[(1, 2), (2, 1)]), &two, &[], [9, 3], [6, 6 + 3]),
+        case(pin(3), star(3).paired(&[(2, 0)]), &two, &[], [9, 3], 2 + 3 + 3),
+        case(pin(3), star(3).paired(&[(1, 2), (2, 1)]), &two, &[], [9, 3], 2 + 3 + 3),
         // The pin is 2. One motor below it, of 0 and 1; the other above.
-        case(hub(), star(3).paired(&[(0, 2), (1, 0)]), &two, &[2, 0, 3, 2, 1, 3], [6, 3], [4 + 6, 4 + 6 + 3]),
+        case(hub(), star(3).paired(&[(0, 2), (1, 0)]), &two, &[2, 0, 3, 2, 1, 3], [6, 3], 2 + 3 + 3),
         // Three motors in their order: of six rows one. Two pairs are tested at once, or one by each extend.
-        case(pin(3), star(4).paired(&[(1, 2), (2, 3)]), &three, &[0, 1, 2, 3], [9 + 9, 3 + 3], [6 + 9, 6 + 9 + 3]),
-        case(
-            pin(3),
-            star(4).paired(&[(1, 3), (2, 3)]),
-            &three,
-            &[0, 1, 2, 3, 0, 2, 1, 3],
-            [9 + 18, 3 + 3],
-            [18 + 8, 18 + 8 + 3],
-        ),
+        case(pin(3), star(4).paired(&[(1, 2), (2, 3)]), &three, &[0, 1, 2, 3], [9 + 9, 3 + 3], 2 + 6 + 7),
+        case(pin(3), star(4).paired(&[(1, 3), (2, 3)]), &three, &[0, 1, 2, 3, 0, 2, 1, 3], [9 + 18, 3 + 3], 2 + 6 + 7),
     ]
 }
 
@@ -125,8 +118,8 @@ fn joined() -> Vec<Worked> {
     let path = [Scan(0), Scan(1), Join];
     let ends = |pairs: &[Pair], [build, probe]: [usize; 2], rows: &[u32]| {
         let query = Query::plain(3, &[(0, 1), (1, 2)]).paired(pairs);
-        let need = 2 * build + 2 * probe + rows.len() + build + build.next_power_of_two();
-        Worked { build: build as u64, probe: probe as u64, ..case(line(), query, &path, rows, [0, 0], [need; 2]) }
+        let need = 2 * build + build + build.next_power_of_two() + 2 + 3;
+        sums(build as u64, probe as u64, case(line(), query, &path, rows, [0, 0], need))
     };
     let diamond = Query::plain(4, &[(0, 1), (0, 2), (1, 2), (1, 3), (2, 3)]);
     let bushy = [Scan(2), Extend(0), Scan(2), Extend(3), Join];
@@ -148,18 +141,18 @@ fn joined() -> Vec<Worked> {
         ends(&[(0, 1), (1, 2), (2, 0)], [2, 2], &[]),
         // The shared vertices 1 and 2 are a pair on both sides, 0 and 3 one between them. Four vertices, each with a line to each other:
         // six rows of each scan, each extended by in- or out-lists of 3 and 3 to two vertices.
-        Worked {
-            build: 12,
-            probe: 12,
-            ..case(
+        sums(
+            12,
+            12,
+            case(
                 clique(4),
                 diamond.paired(&[(0, 3), (1, 2)]),
                 &bushy,
                 &[2, 0, 1, 3, 1, 0, 2, 3, 1, 0, 3, 2, 0, 1, 2, 3, 0, 1, 3, 2, 0, 2, 3, 1],
                 [36 + 36; 2],
-                [36 + 36 + 24 + 12 + 16; 2],
-            )
-        },
+                36 + 12 + 16 + 7 + 4,
+            ),
+        ),
     ]
 }
 

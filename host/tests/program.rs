@@ -2,7 +2,7 @@
 mod judge;
 
 use judge::graph::Graph;
-use judge::hangs::{extend, files, join, scan, sized, stretched, with, worked, WORKED};
+use judge::hangs::{extend, files, join, scan, sets, sized, stretched, with, worked, WORKED};
 use judge::plan::{self, Operator};
 use judge::program::{answer, printed, run, run_places, run_reading, unbounded, Files, Place, FILES, MAX_BYTES};
 use judge::query::Query;
@@ -166,27 +166,44 @@ fn the_largest_graphs() {
     }
 }
 
-/// Needs of 2,048 words, which run, and of few words more. The rows of the first fill the list too.
+/// Needs and rows of 2,048 words, which run, and of few words more. What fits neither is refused for the scratch.
 #[test]
-fn the_last_word_of_the_scratch() {
-    for (files, rows, need) in [
-        (scan(1_024), 1_024, 2_048),
-        (scan(1_025), 1_025, 2_050),
-        (extend(2, 511, 0), 511, 2_048),
-        (extend(4, 509, 2), 509, 2_046),
-        (extend(4, 510, 0), 510, 2_048),
-        (extend(4, 510, 1), 510, 2_049),
-        (extend(1, 511, 2), 511, 2_048),
-        (extend(1, 511, 0), 511, 2_046),
-        (join(252, 512), 4, 2_048),
-        (join(253, 511), 4, 2_049),
+fn the_last_word_of_scratch_and_list() {
+    for (files, need, words, refusal) in [
+        (scan(1_024), 2, 2_048, 0),
+        (scan(1_025), 2, 2_050, 21),
+        (extend(31, 22), 2 + 3 + 22, 2_046, 0),
+        (extend(23, 30), 2 + 3 + 30, 2_070, 21),
+        (sets(507, 507), 2_048, 6, 0),
+        (sets(507, 508), 2_049, 6, 20),
+        (join(510, 2, 2), 2_047, 12, 0),
+        (join(511, 2, 2), 2_050, 12, 20),
+        (join(510, 31, 22), 2_047, 2_046, 0),
+        (join(510, 30, 23), 2_047, 2_070, 21),
+        (join(511, 30, 23), 2_050, 2_070, 20),
     ] {
         let (_, answer) = unbounded(&files).unwrap();
-        assert_eq!((answer.count, answer.need), (rows, need));
+        assert_eq!((answer.need, answer.rows.len()), (need, words));
         let text = run(&files);
-        assert_eq!(text == "refused 20\n", need > 2_048, "{text}");
+        match refusal {
+            0 => assert!(text.starts_with(&format!("matches {} cost ", answer.count)), "{text}"),
+            _ => assert_eq!(text, format!("refused {refusal}\n")),
+        }
         assert_eq!(text, printed(&files));
     }
+}
+
+/// Operators on the way may have more rows than scratch and list have words: here 3,600 in the middle of the plan, and 59 at its end.
+#[test]
+fn many_rows_in_the_middle_of_a_plan() {
+    let mut edges: Vec<(u16, u8, u16)> = (0..60).map(|i| (i, 1, 60)).chain((0..60).map(|i| (60, 2, 61 + i))).collect();
+    edges.push((61, 3, 0));
+    let query = Query::new(vec![0; 4], vec![(0, 1, 1), (1, 2, 2), (2, 3, 3)]);
+    let files = files(&Graph::new(vec![0; 121], edges), &query, &[Scan(0), Extend(2), Extend(3)]);
+    let (_, answer) = unbounded(&files).unwrap();
+    let rows: Vec<u64> = answer.records.iter().map(|record| record.rows).collect();
+    assert_eq!((rows, answer.need), (vec![60, 3_600, 59], 2 + (3 + 60) + (4 + 1)));
+    assert_eq!(run(&files), printed(&files));
 }
 
 /// Files of any kind, valid and damaged, against the judge.

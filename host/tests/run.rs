@@ -1,76 +1,12 @@
 //! Run against matches found by backtracking, and the rules on order, cost and need.
 mod judge;
 
-use judge::calls::{self, Input, Ran};
+use judge::calls::{self, Input};
+use judge::compare::Case;
 use judge::graph::Graph;
-use judge::matcher::Matcher;
 use judge::plan;
 use judge::query::Query;
 use judge::random::{each, Random};
-use judge::rules;
-
-/// A graph, a query, an accepted plan and what its run answers.
-struct Case {
-    graph: Graph,
-    query: Query,
-    plan: Vec<u8>,
-    cache: bool,
-    want: rules::Answer,
-}
-
-impl Case {
-    /// None where a result has more than `most` rows.
-    fn random(r: &Random, graph: Graph, vertices: usize, most: usize) -> Option<Case> {
-        let query = Query::random(r, vertices);
-        let operators = plan::random(r, &query);
-        let cache = r.chance(1, 2);
-        let want = rules::run(&Matcher::new(&graph), &query, &operators, cache, most)?;
-        Some(Case { graph, query, plan: plan::file(&operators), cache, want })
-    }
-
-    /// The same from scratch and list of these lengths: refused just where they are too short.
-    fn compare(&self, r: &Random, scratch: usize, list: usize) -> u32 {
-        let more = r.below(4);
-        self.compare_recording(r, scratch, list, self.want.records.len() + more)
-    }
-
-    /// The same with so many records.
-    fn compare_recording(&self, r: &Random, scratch: usize, list: usize, records: usize) -> u32 {
-        let extra = r.below(4);
-        let store = [self.graph.store(), r.words(extra)].concat();
-        let input = Input { store: &store, query: &self.query.file(), plan: &self.plan, cache: self.cache };
-        let refusal = match () {
-            _ if records < self.want.records.len() => 22,
-            _ if scratch < self.want.need => 20,
-            _ if list < self.want.rows.len() => 21,
-            _ => 0,
-        };
-        let got = calls::run_recording(r, &input, scratch, list, records);
-        let want = match refusal {
-            0 => {
-                let rules::Answer { rows, count, cost, build, probe, records, .. } = self.want.clone();
-                Ran { refusal, rows: count as u64, cost, build, probe, list: rows, records }
-            }
-            _ => Ran { refusal, rows: 0, cost: 0, build: 0, probe: 0, list: Vec::new(), records: Vec::new() },
-        };
-        assert_eq!(got, want, "{:?} {:?} {:?}", self.graph, self.query, self.plan);
-        refusal
-    }
-
-    /// Lengths around the need, and any others.
-    fn compare_lengths(&self, r: &Random) {
-        let (need, rows) = (self.want.need, self.want.rows.len());
-        self.compare(r, need, rows);
-        self.compare(r, need.saturating_sub(1), rows);
-        self.compare(r, need, rows.saturating_sub(1));
-        let (more, most) = (r.below(20), r.below(20));
-        self.compare(r, need + more, rows + most);
-        let (scratch, list) = (r.below(need + 2), r.below(rows + 2));
-        self.compare(r, scratch, list);
-        let records = r.below(self.want.records.len() + 2);
-        self.compare_recording(r, scratch, list, records);
-    }
-}
 
 #[test]
 fn small_graphs() {
@@ -126,9 +62,9 @@ fn large_graphs() {
         }
         let operators = plan::random(r, &triangle);
         let cache = r.chance(1, 2);
-        let Some(want) = rules::run(&Matcher::new(&graph), &triangle, &operators, cache, 1 << 21) else { return };
-        rows += want.count;
-        Case { graph, query: triangle, plan: plan::file(&operators), cache, want }.compare_lengths(r);
+        let Some(case) = Case::new(graph, triangle, operators, cache, 1 << 21) else { return };
+        rows += case.want.count;
+        case.compare_lengths(r);
     });
     assert!(rows > 100_000, "{rows} rows");
 }

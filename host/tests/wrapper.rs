@@ -70,19 +70,20 @@ fn the_worked_lengths() {
         let (scratch, list, records) = (&mut vec![1; scratch], &mut vec![1; list], &mut vec![MARK; records]);
         store.run(&query, &plan, cache, scratch, list, records).map(|m| m.len())
     };
-    for (cache, need) in [(Cache::Off, 16), (Cache::On, 17)] {
-        assert_eq!(run(cache, need, 6, 2), Ok(2));
-        assert_eq!(run(cache, need - 1, 6, 2), Err(Refusal::ScratchSmall));
-        assert_eq!(run(cache, need, 5, 2), Err(Refusal::ListSmall));
-        assert_eq!(run(cache, need - 1, 5, 1), Err(Refusal::RecordsShort));
+    for cache in [Cache::Off, Cache::On] {
+        assert_eq!(run(cache, 6, 6, 2), Ok(2));
+        assert_eq!(run(cache, 5, 6, 2), Err(Refusal::ScratchSmall));
+        assert_eq!(run(cache, 5, 5, 2), Err(Refusal::ScratchSmall));
+        assert_eq!(run(cache, 6, 5, 2), Err(Refusal::ListSmall));
+        assert_eq!(run(cache, 5, 5, 1), Err(Refusal::RecordsShort));
     }
     let bushy = plan::file(&[Scan(2), Extend(0), Scan(2), Extend(3), Join]);
     let run = |cache, scratch: usize| {
         store.run(&diamond().file(), &bushy, cache, &mut vec![1; scratch], &mut [1; 4], &mut [MARK; 5]).map(|m| m.len())
     };
-    for (cache, need) in [(Cache::Off, 22), (Cache::On, 23)] {
-        assert_eq!(run(cache, need), Ok(1));
-        assert_eq!(run(cache, need - 1), Err(Refusal::ScratchSmall));
+    for cache in [Cache::Off, Cache::On] {
+        assert_eq!(run(cache, 20), Ok(1));
+        assert_eq!(run(cache, 19), Err(Refusal::ScratchSmall));
     }
     assert_eq!(rizhavaan::load_into(&g().file(), &mut [0; 30]), Ok(rizhavaan::Loaded { vertices: 4, edges: 5 }));
     assert_eq!(rizhavaan::load_into(&g().file(), &mut [0; 29]), Err(Refusal::StoreSmall));
@@ -98,7 +99,7 @@ fn the_work_of_each_operator() {
     let store = Store::load(&g().file()).unwrap();
     let bushy = plan::file(&[Scan(2), Extend(0), Scan(2), Extend(3), Join]);
     let mut records = [MARK; 7];
-    let (query, scratch, list) = (diamond().file(), &mut [0; 22], &mut [0; 4]);
+    let (query, scratch, list) = (diamond().file(), &mut [0; 20], &mut [0; 4]);
     let matches = store.run(&query, &bushy, Cache::Off, scratch, list, &mut records).unwrap();
     let (scan, extend) = (rizhavaan::Operator::Scan, rizhavaan::Operator::Extend);
     let want =
@@ -129,7 +130,7 @@ fn the_layout_of_a_record() {
     assert_eq!((std::mem::offset_of!(Record, rows), std::mem::offset_of!(Record, cost)), (0, 8));
     let mut records = [MARK; 3];
     let (store, query, plan) = (g().store(), triangle().file(), plan::file(&[Scan(0), Extend(2)]));
-    rizhavaan::run(&store, &query, &plan, Cache::On, &mut [0; 17], &mut [0; 6], &mut records).unwrap();
+    rizhavaan::run(&store, &query, &plan, Cache::On, &mut [0; 6], &mut [0; 6], &mut records).unwrap();
     assert_eq!(records, [Record { rows: 5, cost: 0 }, Record { rows: 2, cost: 13 }, MARK]);
 }
 
@@ -174,6 +175,24 @@ fn buffers_grow() {
         assert_eq!((matches.len(), matches.width(), matches.is_empty()), (39_800, 2, false));
         assert_eq!(matches.words().len(), 79_600);
         assert_eq!(matches.rows().next_back(), Some(&[199, 198][..]));
+    }
+}
+
+/// A result of many rows in buffers of which the scratch has just the need, and a list that grows; and in a scratch that grows, beside a
+/// list that is long enough.
+#[test]
+fn either_buffer_grows() {
+    let n = 60;
+    let pairs: Vec<(u16, u16)> = (0..n).flat_map(|a| (0..n).map(move |b| (a, b))).collect();
+    let store = Store::load(&graph(n.into(), &pairs).file()).unwrap();
+    let (query, plan) = (Query::plain(3, &[(0, 1), (1, 2)]).file(), plan::file(&[Scan(0), Extend(2)]));
+    let (rows, need) = (60 * 59 * 58, 2 + 3 + 60);
+    for (scratch, list) in [(need, 0), (0, 3 * rows), (need, 3 * rows), (1 << 20, 1 << 20)] {
+        let mut buffers = Buffers::with_words(scratch, list);
+        let matches = store.run_growing(&query, &plan, Cache::On, &mut buffers).unwrap();
+        assert_eq!((matches.len(), matches.cost), (rows, 60 * 59 * 60));
+        assert_eq!(matches.rows().next(), Some(&[0, 1, 2][..]));
+        assert_eq!(matches.rows().next_back(), Some(&[59, 58, 57][..]));
     }
 }
 

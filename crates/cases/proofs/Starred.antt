@@ -15,12 +15,12 @@ use Rattle.plan.specs.File.{place, operatorsOf, planFault, checkFault}
 use Rattle.matching.specs.Row.{members, pack, look}
 use Rattle.matching.specs.Match.{fits, holds, allows, permits}
 use Rattle.operators.specs.Scan.{scans, scanRows}
-use Rattle.operators.specs.Extend.{candidates, grown, sameUsed, reuses, extendAfter, extendRows, portionFor, rowCost, costAfter, extendCost, longestSet}
+use Rattle.operators.specs.Extend.{candidates, grown, sameUsed, reuses, extendAfter, extendRows, portionFor, rowCost, costAfter, extendCost}
 use Rattle.operators.specs.Join.{agree, partners, joinRows, heads}
-use Rattle.execution.specs.Pile.{apply, costOf, buildOf, probeOf, besidesOf, topWords, needOf, pileAfter, sumOver, needFrom}
-use Rattle.execution.specs.Run.{topRows, planRows, planCost, planBuild, planProbe, planNeed, recordOf, recordsFrom, planRecords, runFault, runAnswer, runList, runRecords}
+use Rattle.execution.specs.Pile.{longestSet, apply, costOf, buildOf, probeOf, pileAfter, topRows, topNeed, stepOf, stepsFrom}
+use Rattle.execution.specs.Run.{planRows, planCost, planBuild, planProbe, planNeed, planRecords, planNumbers, planPasses, runFault, runAnswer, runList, runRecords}
 use Rattle.cases.specs.Cases.{passes, starred}
 
 pub starred-pass : all passes starred ≡ true
-unfolding passes starred flatMap flatten range all any keep countIf total largest same ascendsFrom ascending insertSorted sort first bitAt fieldAt fillSet covers linked portionLength graphOf graphFault offsets entries storeOf loadFault loadStore graphIn wellFormed storeFault paired reached connected queryOf queryFault joinable ruleFault covered endFault rulesFault place operatorsOf planFault checkFault members pack look fits holds allows permits scans scanRows candidates grown sameUsed reuses extendAfter extendRows portionFor rowCost costAfter extendCost longestSet agree partners joinRows heads apply costOf buildOf probeOf besidesOf topWords needOf pileAfter sumOver needFrom topRows planRows planCost planBuild planProbe planNeed recordOf recordsFrom planRecords runFault runAnswer runList runRecords
+unfolding passes starred flatMap flatten range all any keep countIf total largest same ascendsFrom ascending insertSorted sort first bitAt fieldAt fillSet covers linked portionLength graphOf graphFault offsets entries storeOf loadFault loadStore graphIn wellFormed storeFault paired reached connected queryOf queryFault joinable ruleFault covered endFault rulesFault place operatorsOf planFault checkFault members pack look fits holds allows permits scans scanRows candidates grown sameUsed reuses extendAfter extendRows portionFor rowCost costAfter extendCost longestSet agree partners joinRows heads apply costOf buildOf probeOf pileAfter topRows topNeed stepOf stepsFrom planRows planCost planBuild planProbe planNeed planRecords planNumbers planPasses runFault runAnswer runList runRecords
 starred-pass = refl

@@ -39,8 +39,9 @@ fn judge_again(
     b.refusal
 }
 
-// Lengths of scratch ever closer to the need: those below `short` give 20, and it grows by ever smaller steps until it serves.
-fn judge_scratch(store: &Store, files: &Files, ran: Ran, first: &List, tally: &mut Tally) {
+// Lengths of scratch ever closer to the need: those below `short` give 20, and it grows by ever smaller steps until it serves. Answers the
+// need.
+fn judge_scratch(store: &Store, files: &Files, ran: Ran, first: &List, tally: &mut Tally) -> usize {
     let mut w = ran.with;
     let mut short = 0;
     for k in 0..14usize {
@@ -50,6 +51,26 @@ fn judge_scratch(store: &Store, files: &Files, ran: Ran, first: &List, tally: &m
             short = add(short, step);
         }
     }
+    short
+}
+
+// With the other cache setting the need is the same; a word less gives 20, also where the list is too short.
+fn judge_need(
+    store: &Store,
+    files: &Files,
+    ran: Ran,
+    need: usize,
+    first: &List,
+    tally: &mut Tally,
+) {
+    let mut w = ran.with;
+    w.cache = !ran.with.cache;
+    w.scratch = need;
+    judge_again(store, files, w, ran.answer, first, 0, SCRATCH, tally);
+    w.scratch = sub(need, 1);
+    w.list = w.list / 2;
+    let refusal = judge_again(store, files, w, ran.answer, first, 20, SCRATCH, tally);
+    judge(tally, SCRATCH, refusal == 20);
 }
 
 // A list of just the rows' words serves as well; one a word shorter gives 21.
@@ -74,6 +95,14 @@ fn judge_records(store: &Store, files: &Files, ran: Ran, first: &List, tally: &m
     judge(tally, RECORDS, refusal == 22);
 }
 
+// Lists, records and scratches of many lengths.
+fn judge_lengths(store: &Store, files: &Files, ran: Ran, first: &List, tally: &mut Tally) {
+    judge_list(store, files, ran, first, tally);
+    judge_records(store, files, ran, first, tally);
+    let need = judge_scratch(store, files, ran, first, tally);
+    judge_need(store, files, ran, need, first, tally);
+}
+
 // Counts a plan with rows, one with joined rows, and the rows.
 fn count_rows(a: RunAnswer, tally: &mut Tally) {
     count(tally, FILLED, (0 < a.rows) as u64);
@@ -82,7 +111,7 @@ fn count_rows(a: RunAnswer, tally: &mut Tally) {
 }
 
 // All runs of the last of so many plans of a query; answers whether they were judged, and not too large for the scratch. The first
-// run is with the cache off, which may fit where one with it on does not.
+// run is with the cache off; one with it on needs no more.
 pub fn judge_plan(
     g: &Graph,
     store: &Store,
@@ -102,14 +131,10 @@ pub fn judge_plan(
     judge(tally, MATCHED, matched & (a.refusal == 0));
     count_rows(a, tally);
     w.cache = true;
-    if judge_again(store, files, w, a, &first, 20, CACHE, tally) == 20 {
-        return false;
-    }
+    judge_again(store, files, w, a, &first, 0, CACHE, tally);
     w.cache = plans == 1;
     w.list = row_words(a.rows, with.width);
     let ran = Ran { with: w, answer: a };
-    judge_list(store, files, ran, &first, tally);
-    judge_records(store, files, ran, &first, tally);
-    judge_scratch(store, files, ran, &first, tally);
+    judge_lengths(store, files, ran, &first, tally);
     true
 }

@@ -127,9 +127,9 @@ pub fn print(tally: &Tally) {
         ROWS + 1,
     );
     print_counts(
-        b"refused with 1 to 29\n",
+        b"refused with 1 to 30\n",
         tally,
         REFUSALS + 1,
-        REFUSALS + 30,
+        REFUSALS + 31,
     );
 }

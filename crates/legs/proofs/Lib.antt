@@ -1,5 +1,4 @@
 -- Laws of the legs of a row, and of their portions.
-pub mod Laying
 pub mod Leading
 pub mod Listing
 pub mod Lookups

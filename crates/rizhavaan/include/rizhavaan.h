@@ -98,6 +98,8 @@ enum rizhavaan_refusal {
                                       strictly */
     RIZHAVAAN_CHANGES_EDGE = 28,   /* an edge is added that is there, or one is taken away that is not */
     RIZHAVAAN_CHANGES_MANY = 29,   /* the edited graph has more than 1,048,575 edges */
+    RIZHAVAAN_RUN_NUMBERS = 30,    /* a number that the run would give or record is above 18,446,744,073,709,551,615:
+                                      after 20, before 21 */
     RIZHAVAAN_SHEET_ROWS = 33,     /* n is not 2 to 8, there are more than 536,870,912 rows, the list is too short for
                                       its rows, or one of their words is above 65,535, on whatever page */
     RIZHAVAAN_SHEET_PAGE = 34,     /* the page is not 1 to the page count */
@@ -144,7 +146,7 @@ uint32_t rizhavaan_draw_plan(const uint32_t *store, size_t store_len,
                              uint64_t *bytes);
 
 /* Runs a plan over a store, and gives the number of rows, the cost, and the sums of build rows and probe rows over
- * all joins. Refusals 6 to 22, 25 and 26: 22 comes after those of the plan and before 19.
+ * all joins. Refusals 6 to 22, 25, 26 and 30: those of the plan, then 22, 19, 20, 30 and 21.
  *
  * A row is n words, the data vertices of query vertices 0 to n - 1, no two the same, and of each pair the first
  * below the second; the rows are the matches of the query, each once, from the list's first word on. Pairs that
@@ -153,8 +155,21 @@ uint32_t rizhavaan_draw_plan(const uint32_t *store, size_t store_len,
  * long, and the rest is untouched. The first records are those of the plan's operators, in its order; their costs
  * add up to the cost, and the last one's rows are the rows. Refused, the records are untouched; accepted, those
  * past the last operator are. With the cache on, an extend reuses the vertices found for the row just before where
- * it may: the rows are the same, the cost is no higher, and it needs as many words of scratch more as the longest
- * set of vertices it found has, those that equal a vertex of the row or break a pair among them. */
+ * it may: the rows are the same, and the cost is no higher.
+ *
+ * Rows are streamed through the plan: the scratch holds no rows but those of a join's build side, so that what a run
+ * needs does not grow with what it lists. The need is that of the last operator, with the cache on or off:
+ *
+ *  - of a scan 2;
+ *  - of an extend its operand's need, its own row's width, and the longest set of vertices that it found for a row by
+ *    edges, label and day, those that equal a vertex of the row or break a pair among them;
+ *  - of a join of b build rows of width w the larger of two sums: the build side's need and b w; or b w, b, the least
+ *    power of two not below b, the probe side's need and its own row's width.
+ *
+ * The list is written when the run is known to fit: where the rows are many and the scratch is short, they are found
+ * twice, to be counted and to be written. They are found once where the scratch has, besides the build sides, the
+ * words of the rows and N words for each operator after the last scan; the answer is the same. A call uses less than
+ * 1 MB of stack. */
 uint32_t rizhavaan_run(const uint32_t *store, size_t store_len,
                        const uint8_t *query, size_t query_len,
                        const uint8_t *plan, size_t plan_len,

@@ -4,5 +4,3 @@ pub mod Widths
 pub mod Opening
 pub mod Writing
 pub mod Laid
-pub mod Holding
-pub mod Operators

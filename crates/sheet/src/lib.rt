@@ -4,7 +4,7 @@ mod large;
 mod lines;
 mod number;
 
-use operators::Output;
+use execution::RunAnswer;
 use query::Query;
 ghost use mathlib.Core.Path.{_≡_};
 ghost use mathlib.Core.List.{_++_};
@@ -64,7 +64,7 @@ fn rows_fault(list: &[u32], n: usize, rows: usize) -> u32
     if list.len() < count {
         return 33;
     }
-    if Output::MAX_WORDS < count {
+    if RunAnswer::MAX_WORDS < count {
         return 33;
     }
     if large::any_large(&list[..count]) {

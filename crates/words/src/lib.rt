@@ -84,16 +84,3 @@ pub fn move_down(part: &mut [u32], from: usize, count: usize)
         i += 1;
     }
 }
-
-// The first `count` words of a part, moved to its end. From the last to the first: no word is written over before it is read.
-pub fn move_to_end(part: &mut [u32], count: usize)
-    requires { ⌜ count ≤ length (now part) ⌝ }
-    ensures { λ _. ⌜ now (part .exit) ≡ take (length (now (part .entry)) - count) (now (part .entry)) ++ take count (now (part .entry)) ⌝ }
-{
-    let gap = part.len() - count;
-    let mut i = count;
-    while 0 < i {
-        i -= 1;
-        part[gap + i] = part[i];
-    }
-}

@@ -68,12 +68,17 @@ pub fn engine(
     }
 }
 
-/// The words of scratch that a run needs, by the plain version of the engine's algorithm.
-pub fn need(store: &[u32], query: &[u8], plan: &[u8], cache: bool) -> usize {
+/// The words of scratch that a run of every version is lent: those that the plain version of the engine's algorithm as it was before rows
+/// were streamed needs, or twice as many, and so on, where the engine needs more.
+pub fn lent(store: &[u32], query: &[u8], plan: &[u8], cache: bool) -> usize {
     let mut reserved = vec![0; MOST];
     let mut records = [Record::default(); rizhavaan::MAX_OPERATORS];
-    let (query, plan) = (files::query(query), files::plan(plan));
-    same::execute(store, &query, &plan, cache, &mut reserved, &mut records).expect("the case fits").need
+    let (q, p) = (files::query(query), files::plan(plan));
+    let mut words = same::execute(store, &q, &p, cache, &mut reserved, &mut records).expect("the case fits").need;
+    while engine(store, query, plan, cache, &mut reserved[..words], &mut [], &mut records).refusal == 20 {
+        words = (2 * words).max(64);
+    }
+    words
 }
 
 impl Bench<'_> {
@@ -163,10 +168,10 @@ impl Bench<'_> {
         row
     }
 
-    /// A run in scratch and list of just the words that it needs, which were in use before.
+    /// A run in a scratch of the words that are lent and a list of just the words of its rows, which were in use before.
     pub fn run(&self, case: &Case, cache: bool, databases: [Option<&Database>; 2]) -> Row {
         let (store, query, plan) = (&self.store[..], case.query(), case.plan());
-        let mut scratch = vec![1; need(store, &query, &plan, cache)];
+        let mut scratch = vec![1; lent(store, &query, &plan, cache)];
         let mut list = vec![0; MOST];
         let mut recorded = [Record::default(); rizhavaan::MAX_OPERATORS];
         let expected = engine(store, &query, &plan, cache, &mut scratch, &mut list, &mut recorded);

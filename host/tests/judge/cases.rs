@@ -1,6 +1,7 @@
 //! Cases worked by hand, to which the judge and the library are held.
 use super::calls::{self, Input, Ran};
 use super::graph::Graph;
+use super::lengths::segments;
 use super::matcher::Matcher;
 use super::plan::{self, Operator};
 use super::query::Query;
@@ -16,12 +17,18 @@ pub struct Worked {
     pub probe: u64,
     /// With the cache off, and on.
     pub cost: [u64; 2],
-    pub need: [usize; 2],
+    /// With the cache off and on alike.
+    pub need: usize,
 }
 
 /// A case without a join.
-pub fn case(graph: Graph, query: Query, plan: &[Operator], rows: &[u32], cost: [u64; 2], need: [usize; 2]) -> Worked {
+pub fn case(graph: Graph, query: Query, plan: &[Operator], rows: &[u32], cost: [u64; 2], need: usize) -> Worked {
     Worked { graph, query, plan: plan.to_vec(), rows: rows.to_vec(), build: 0, probe: 0, cost, need }
+}
+
+/// The same with so many build rows and probe rows.
+pub fn joined(build: u64, probe: u64, case: Worked) -> Worked {
+    Worked { build, probe, ..case }
 }
 
 impl Worked {
@@ -32,7 +39,7 @@ impl Worked {
             cost: self.cost[usize::from(cache)],
             build: self.build,
             probe: self.probe,
-            need: self.need[usize::from(cache)],
+            need: self.need,
             // Not worked by hand: those of the rules in words.
             records: in_words::run(&self.graph, &self.query, &self.plan, cache).records,
         }
@@ -50,21 +57,27 @@ impl Worked {
         }
     }
 
-    /// The library, in every scratch up to beyond the need, and in lists around the rows.
+    /// The library, in every scratch up to beyond the need and around the lengths at which it goes another way, and in lists around the
+    /// rows: where scratch and list are both too short, the scratch is named.
     pub fn hold_library(&self, r: &Random) {
         let Worked { graph, query, plan, .. } = self;
         for cache in [false, true] {
-            let (need, list) = (self.need[usize::from(cache)], self.rows.len());
+            let (need, list) = (self.need, self.rows.len());
             let run = |scratch, list| run(r, graph, query, plan, cache, scratch, list);
             for scratch in 0..need {
-                assert_eq!(run(scratch, list).refusal, 20, "{scratch} words: {graph:?} {query:?} {plan:?}");
+                for list in [list, list + 40, list / 2, 0] {
+                    assert_eq!(run(scratch, list).refusal, 20, "{scratch} words: {graph:?} {query:?} {plan:?}");
+                }
             }
-            for scratch in [need, need + 1, need + 40] {
-                assert_eq!(run(scratch, list), accepted(self.answer(cache)), "{graph:?} {query:?} {plan:?}");
-            }
-            assert_eq!(run(need, list + 40).refusal, 0);
-            if list > 0 {
-                assert_eq!(run(need, list - 1).refusal, 21);
+            let answer = self.answer(cache);
+            let turns = segments(graph, query, plan, &answer.records).into_iter().flat_map(|segment| segment.turns());
+            for scratch in turns.filter(|&words| need < words).chain([need, need + 1, need + 40]) {
+                let ran = run(scratch, list);
+                assert_eq!(ran, accepted(answer.clone()), "{scratch} words: {graph:?} {query:?} {plan:?}");
+                assert_eq!(run(scratch, list + 40), ran);
+                if list > 0 {
+                    assert_eq!(run(scratch, list - 1).refusal, 21, "{scratch} words: {graph:?} {query:?} {plan:?}");
+                }
             }
         }
     }

@@ -48,17 +48,29 @@ fn two_labels() -> Query {
     Query::new(vec![0; 3], vec![(0, 1, 1), (1, 2, 2)])
 }
 
-/// So many edges of label 1, of which the first is extended to so many rows by edges of label 2. Its set of new vertices has besides
-/// 1 or 2 that the row has already, or none.
-pub fn extend(operands: u16, rows: u16, struck: u16) -> Files {
-    let edges = (1..=operands).map(|t| (0, 1, t)).chain((2 - struck..2 + rows).map(|t| (1, 2, t))).collect();
-    files(&Graph::new(vec![0; 700], edges), &two_labels(), &[Scan(0), Extend(2)])
+/// Edges of label 1 into vertex 40 and of label 2 out of it.
+fn through_40(into: u16, out_of: u16) -> Vec<Edge> {
+    (0..into).map(|s| (s, 1, 40)).chain((0..out_of).map(|t| (40, 2, 41 + t))).collect()
 }
 
-/// So many edges of label 1, joined with so many of label 2: four rows, since two of each meet in vertex 40.
-pub fn join(build: u16, probe: u16) -> Files {
-    let mut edges: Vec<Edge> = vec![(0, 1, 40), (1, 1, 40), (40, 2, 41), (40, 2, 42)];
-    edges.extend((0..build - 2).map(|i| (i / 16, 1, 64 + i % 16)));
-    edges.extend((0..probe - 2).map(|i| (16 + i / 22, 2, 41 + i % 22)));
+/// So many rows, extended by as many new vertices each.
+pub fn extend(rows: u16, each: u16) -> Files {
+    files(&Graph::new(vec![0; 80], through_40(rows, each)), &two_labels(), &[Scan(0), Extend(2)])
+}
+
+/// So many edges of label 1, joined with some of label 2: so many of both meet in vertex 40, and give as many rows as their product.
+pub fn join(build: u16, into: u16, out_of: u16) -> Files {
+    let mut edges = through_40(into, out_of);
+    edges.extend((0..build - into).map(|i| (i / 16, 1, 64 + i % 16)));
     files(&Graph::new(vec![0; 80], edges), &two_labels(), &[Scan(0), Scan(1), Join])
+}
+
+/// Four extends with long sets and few rows: vertex 0 has so many edges of label 1, by which three of them go, and so many of label 2. Only
+/// item 5 has the label of query vertex 1, and the pairs leave it those below, each below the one before: one row at the end.
+pub fn sets(first: u16, last: u16) -> Files {
+    let edges = (1..=first).map(|t| (0, 1, t)).chain((1..=last).map(|t| (0, 2, t))).collect();
+    let labels = (0..=first.max(last)).map(|v| if v == 5 { 7 } else { 0 }).collect();
+    let star = (1..6).map(|v| (0, v, if v < 5 { 1 } else { 2 })).collect();
+    let query = Query::new(vec![0, 7, 0, 0, 0, 0], star).paired(&[(2, 1), (3, 2), (4, 3), (5, 4)]);
+    files(&Graph::new(labels, edges), &query, &[Scan(0), Extend(2), Extend(3), Extend(4), Extend(5)])
 }

@@ -139,6 +139,46 @@ pub fn random(r: &Random, query: &Query) -> Vec<Operator> {
     plan
 }
 
+/// A plan with two joins or more, in any shape: build sides may wait for each other, and joins and extends may follow any of them. None where
+/// none was found.
+pub fn bushy(r: &Random, query: &Query) -> Option<Vec<Operator>> {
+    let joins = |plan: &[Operator]| plan.iter().filter(|&&operator| operator == Join).count();
+    (0..60).map(|_| any_shape(r, query)).find(|plan| joins(plan) > 1 && follow(query, plan).is_ok())
+}
+
+/// Operators that find what they need, until one result covers all, or there are many.
+fn any_shape(r: &Random, query: &Query) -> Vec<Operator> {
+    let (mut plan, mut pile): (Vec<Operator>, Vec<Vec<usize>>) = (Vec::new(), Vec::new());
+    while plan.len() < 20 && (pile.len() != 1 || pile[0].len() < query.vertices()) {
+        let union = match &pile[..] {
+            [.., build, probe] => joined(query, build, probe),
+            _ => None,
+        };
+        let next: Vec<usize> = match pile.last() {
+            Some(top) => (0..query.vertices()).filter(|v| !top.contains(v) && query.touches(*v, top)).collect(),
+            None => Vec::new(),
+        };
+        match union {
+            Some(union) if r.chance(2, 3) => {
+                pile.truncate(pile.len() - 2);
+                pile.push(union);
+                plan.push(Join);
+            }
+            _ if !next.is_empty() && r.chance(1, 3) => {
+                let v = next[r.below(next.len())];
+                pile.last_mut().unwrap().push(v);
+                plan.push(Extend(v));
+            }
+            _ => {
+                let edge = r.below(query.edges.len());
+                pile.push(vec![query.edges[edge].0, query.edges[edge].1]);
+                plan.push(Scan(edge));
+            }
+        }
+    }
+    plan
+}
+
 /// Changes operators so that some rule is likely broken.
 pub fn disturb(r: &Random, query: &Query, plan: &mut Vec<Operator>) {
     for _ in 0..1 + r.below(2) {

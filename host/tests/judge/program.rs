@@ -155,7 +155,7 @@ pub fn answer(files: &Files) -> Result<(usize, rules::Answer), u32> {
     }
 }
 
-/// The same with scratch and list that are long enough, though for no result of more rows than the scratch has words.
+/// The same with scratch and list that are long enough.
 pub fn unbounded([g, q, p]: &Files) -> Result<(usize, rules::Answer), u32> {
     let graph = Graph::read(g)?;
     if graph.store_size() > STORE_WORDS {
@@ -163,6 +163,6 @@ pub fn unbounded([g, q, p]: &Files) -> Result<(usize, rules::Answer), u32> {
     }
     let query = Query::read(q)?;
     let operators = plan::read(&query, p)?;
-    let answer = rules::run(&Matcher::new(&graph), &query, &operators, true, SCRATCH_WORDS).ok_or(20u32)?;
+    let answer = rules::run(&Matcher::new(&graph), &query, &operators, true, 1 << 20).expect("a result of few rows");
     Ok((query.vertices(), answer))
 }

@@ -1,7 +1,0 @@
--- Laws of extend.
-pub mod Used
-pub mod Rowwise
-pub mod Loop
-pub mod Meaning
-pub mod Definition
-pub mod Handed

@@ -1,2 +1,0 @@
--- Predicates of inner functions. What an operator leaves in the scratch.
-pub mod Written

@@ -1,4 +1,0 @@
--- Laws of scan.
-pub mod Listing
-pub mod Loop
-pub mod Meaning

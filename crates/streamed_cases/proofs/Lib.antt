@@ -1,2 +1,0 @@
--- The worked needs hold.
-pub mod Worked

@@ -1,2 +1,0 @@
--- Worked needs of streamed runs.
-pub mod Cases

@@ -1,1 +1,0 @@
-// The worked needs of streamed runs, as one table and one theorem.
