@@ -1,8 +1,8 @@
 -- Stopping at a top value at each step is stopping there at the end; more build rows have no fewer heads. Assumes nothing.
 use mathlib.Core.Path.{_≡_, refl, sym, _∙_, ap, ap₂}
 use mathlib.Core.Bool.{Bool, true, false}
-use Prim.Native.Nat.{ℕ, zero, suc, _+_, _*_, _^_, min, max, _≤_, _<_}
-use native.Mathlib.Nat.{mul-comm, le-mul-of-pos-right}
+use Prim.Native.Nat.{ℕ, zero, suc, _+_, _*_, _/_, _^_, min, max, _≤_, _<_}
+use native.Mathlib.Nat.{le-refl, mul-comm, le-mul-of-pos-right, le-div-iff-mul-le, div-lt-iff-lt-mul}
 use native.Mathlib.Omega.{arith}
 use lib.Dec.{ltb}
 use lib.Pow.{pow-mono}
@@ -63,7 +63,7 @@ module _ (top : ℕ) where
   pub cap-min : (a b : ℕ) → min (min a top) (min b top) ≡ min (min a b) top
   cap-min a b = omega arith
 
-  cap-left : (a b : ℕ) → min (min a top * b) top ≡ min (a * b) top
+  pub cap-left : (a b : ℕ) → min (min a top * b) top ≡ min (a * b) top
   cap-left a zero = omega arith
   cap-left a (suc b) = go (ltb top a) refl
     where
@@ -106,3 +106,41 @@ module _ (top : ℕ) where
   capped-at-the-end (larger a b) = ap₂ max (capped-at-the-end a) (capped-at-the-end b) ∙ cap-max (plain a) (plain b)
   capped-at-the-end (smaller a b) = ap₂ min (capped-at-the-end a) (capped-at-the-end b) ∙ cap-min (plain a) (plain b)
   capped-at-the-end (headsOf a) = ap (λ (x : ℕ). min (heads x) top) (capped-at-the-end a) ∙ cap-heads (plain a)
+
+-- ---- the code's tests of a product, and of a power of two that is the last
+
+pub times-none : (top a b : ℕ) → b ≡ 0 → 0 ≡ min (a * b) top
+times-none top a b e = rw e (omega arith)
+
+pub times-over : (top a b : ℕ) → (b ≡ 0 → ⊥) → top / b < a → top ≡ min (a * b) top
+times-over top a b some l = let m : top < a * b = div-lt-iff-lt-mul {k = b} {x = top} {y = a} (omega arith) .0 l in omega arith
+
+pub times-fits : (top a b : ℕ) → (b ≡ 0 → ⊥) → a ≤ top / b → a * b ≤ top
+times-fits top a b some l = le-div-iff-mul-le {k = b} {x = a} {y = top} (omega arith) .0 l
+
+-- Where the last power of two of 64 bits is still below b, the heads of b pass 64 bits.
+pub heads-over : (b h : ℕ) → Doubled b h → h < b → 2 ^ 63 ≤ h → 18446744073709551615 ≡ min (heads b) 18446744073709551615
+heads-over b h d l m = omega (arith, doubled-most b b (h * 2) (doubled-next b h d l) (le-refl b))
+
+-- ---- the sums of an extend's and of a join's need
+
+module _ (top : ℕ) where
+  pub cap-need : (n w l : ℕ) → min (min n top + (w + l)) top ≡ min (n + w + l) top
+  cap-need n w l = omega arith
+
+  cap-table : (w r h : ℕ) → min (min w top + min (min r top + min h top) top) top ≡ min (w + r + h) top
+  cap-table w r h = rw (cap-add top r h, cap-add top w (r + h)) (omega arith)
+
+  cap-second : (t p w : ℕ) → min (min t top + min (min p top + w) top) top ≡ min (t + p + w) top
+  cap-second t p w =
+      let e : min (min p top + w) top ≡ min (p + w) top = omega arith in
+      rw (e, cap-add top t (p + w)) (omega arith)
+
+  -- A join's need of numbers that stop at the top: those of the build rows, their width, the build's and the probe's need, and a width.
+  pub cap-join : (r a n p w : ℕ)
+      → max (min (min n top + min (min r top * a) top) top)
+      (min (min (min (min r top * a) top + min (min r top + min (heads (min r top)) top) top) top + min (min p top + w) top) top)
+      ≡ min (max (n + r * a) (r * a + r + heads r + p + w)) top
+  cap-join r a n p w =
+      rw (cap-left top r a, cap-heads top r, cap-table (r * a) r (heads r), cap-second (r * a + r + heads r) p w, cap-add top n (r * a))
+      (cap-max top (n + r * a) (r * a + r + heads r + p + w))

@@ -2,6 +2,7 @@
 pub mod Capping
 pub mod Counting
 pub mod Reached
--- pub mod Steady
--- pub mod Whole
--- pub mod Promised
+pub mod Steady
+pub mod Promised
+pub mod Seeing
+pub mod Piling

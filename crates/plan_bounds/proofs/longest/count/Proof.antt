@@ -1,0 +1,73 @@
+use mathlib.Core.Path.{_≡_, refl, sym, _∙_, ap}
+use Prim.Native.Nat.{ℕ, _-_, _/_, _≤_}
+use native.Mathlib.Omega.{arith}
+use lib.Dec.{eqb}
+use lib.ListN.{length, take}
+use borrow.Author.Needs.{needs}
+use Rattle.lists.specs.Lists.{bit, countIf}
+use Rattle.lists.proofs.Bits.{bit-le}
+use Rattle.plan_bounds.proofs.Seeing.{counted-next, counted-all}
+use Rattle.plan_bounds.proofs.longest.count.Statement.{statement}
+use Rattle.plan_bounds.proofs.longest.count.Tie as tie
+use Rattle.plan_bounds.proofs.longest.count.Reads as reads
+use Rattle.plan_bounds.proofs.longest.count.Lts as lts
+
+abbrev Inv-loop : tie.InvT-loop
+Inv-loop entries label found₀ i₀ found i =
+    (i ≤ length entries) × (found ≤ i) × (found ≡ countIf (λ (k : ℕ). eqb (k / 65536) label) (take i entries))
+
+abbrev μ-loop : tie.MeasureT-loop
+μ-loop entries label found₀ i₀ found i = length entries - i
+
+-- src/longest.rt:145:5
+loop-holds : tie.Need-loop-holds Inv-loop μ-loop
+unfolding countIf
+loop-holds c = (omega arith, omega arith, refl)
+
+-- src/longest.rt:146:19
+mul-found : tie.Need-mul-found Inv-loop μ-loop
+mul-found c = search needs
+
+-- src/longest.rt:146:19
+shared-slice-read-found : tie.Need-shared-slice-read-found Inv-loop μ-loop
+shared-slice-read-found c = search needs
+
+-- src/longest.rt:146:18
+cast-found : tie.Need-cast-found Inv-loop μ-loop
+cast-found c = ?
+
+-- src/longest.rt:146:9
+add-found : tie.Need-add-found Inv-loop μ-loop
+add-found c = ?
+
+-- src/longest.rt:147:9
+add-i : tie.Need-add-i Inv-loop μ-loop
+add-i c = search needs
+
+-- src/longest.rt:145:5
+loop-less : tie.Need-loop-less Inv-loop μ-loop
+loop-less c = search needs
+
+-- src/longest.rt:145:5
+loop-again : tie.Need-loop-again Inv-loop μ-loop
+loop-again c = (search needs, ?, ?)
+
+-- src/longest.rt:139:1
+returns : tie.Need-returns Inv-loop μ-loop
+returns c = ?
+
+pub count-spec : {M : Type 1} → statement M
+count-spec =
+    tie.close
+    (tie.spec
+    Inv-loop
+    μ-loop
+    loop-holds
+    mul-found
+    shared-slice-read-found
+    cast-found
+    add-found
+    add-i
+    loop-less
+    loop-again
+    returns)
