@@ -6,3 +6,4 @@ pub mod Steady
 pub mod Promised
 pub mod Seeing
 pub mod Piling
+pub mod Turning

@@ -9,8 +9,10 @@ use native.Mathlib.Omega.{arith}
 use lib.Dec.{eqb}
 use lib.ListN.{length, getD, take, drop, length-append}
 use lib.Seq.{take-suc}
-use borrow.Author.Tests.{eqb-true, eqb-false, ne-eqb}
+use borrow.Author.Tests.{eqb-true, eqb-false, eq-eqb, ne-eqb}
 use Rattle.lists.specs.Lists.{bit, range, keep, countIf, total, largest}
+use mir.Val.{boolByte}
+use Rattle.lists.proofs.Bits.{bit-le}
 use Rattle.lists.proofs.All.{keep-append, all-true}
 use Rattle.lists.proofs.Count.{count-le, count-all, count-under, count-snoc, length-keep, total-append, total-map, largest-snoc}
 use Rattle.lists.proofs.Maps.{image-suc, getD-image}
@@ -135,7 +137,37 @@ longest-few store good v e = go (eqb (e .source) v)
     go true = each backward
     go false = each forward
 
+-- The side of a direction, and the portion of an edge by its end.
+module _ (store : List ℕ) (g : GraphStruct) (side : ℕ) (asked : Counts store g) where
+  pub side-forward : side ≡ sideAt forward (g .vertices) (g .edges) → side ≡ sideIn forward store
+  side-forward e = e ∙ ap₂ (sideAt forward) (asked .vertices) (asked .edges)
+
+  pub side-backward : side ≡ sideAt backward (g .vertices) (g .edges) → side ≡ sideIn backward store
+  side-backward e = e ∙ ap₂ (sideAt backward) (asked .vertices) (asked .edges)
+
+  pub sided-forward : side ≡ sideAt forward (g .vertices) (g .edges) → Sided store (g .vertices) side
+  sided-forward e = record { accepted = asked .accepted; vertices = asked .vertices; direction = forward; begins = side-forward e }
+
+  pub sided-backward : side ≡ sideAt backward (g .vertices) (g .edges) → Sided store (g .vertices) side
+  sided-backward e = record { accepted = asked .accepted; vertices = asked .vertices; direction = backward; begins = side-backward e }
+
+module _ (g : Graph) (v : ℕ) (e : Edge) where
+  pub for-backward : e .source ≡ v → longestFor g v e ≡ longestPortion g backward (e .label)
+  unfolding longestFor
+  for-backward i = rw (eq-eqb (e .source) v i)
+
+  pub for-forward : (e .source ≡ v → ⊥) → longestFor g v e ≡ longestPortion g forward (e .label)
+  unfolding longestFor
+  for-forward n = rw (ne-eqb (e .source) v n)
+
 -- ---- a label's edges
+
+pub byte-bit : (b : Bool) → boolByte b ≡ bit b
+byte-bit true = refl
+byte-bit false = refl
+
+pub byte-le : (b : Bool) → boolByte b ≤ 1
+byte-le b = omega (arith, byte-bit b, bit-le b)
 
 pub counted-next : (l : ℕ) (s : List ℕ) (i : ℕ) → i < length s
     → countIf (λ (k : ℕ). eqb (k / 65536) l) (take (i + 1) s) ≡ countIf (λ (k : ℕ). eqb (k / 65536) l) (take i s) + bit (eqb (getD s i 0 / 65536) l)

@@ -1,4 +1,4 @@
-use Prim.Native.Nat.{_-_}
+use Prim.Native.Nat.{_-_, _≤_}
 use native.Mathlib.Omega.{arith}
 use Rattle.join_key.proofs.Doubled.{Doubled, doubled-one, doubled-some, doubled-next, doubled-last}
 use Rattle.plan_bounds.proofs.Capping.{heads-over}
@@ -8,18 +8,18 @@ use Rattle.plan_bounds.proofs.capped.heads.Reads as reads
 use Rattle.plan_bounds.proofs.capped.heads.Lts as lts
 
 abbrev Inv-loop : tie.InvT-loop
-Inv-loop b h₀ h = Doubled b h
+Inv-loop b h₀ h = Doubled b h × (h ≤ 18446744073709551615)
 
 abbrev μ-loop : tie.MeasureT-loop
 μ-loop b h₀ h = b - h
 
 -- src/capped.rt:47:5
 loop-holds : tie.Need-loop-holds Inv-loop μ-loop
-loop-holds c = doubled-one (c .args .b)
+loop-holds c = (doubled-one (c .args .b), omega arith)
 
 -- src/capped.rt:49:13
 returns : tie.Need-returns Inv-loop μ-loop
-returns c = heads-over _ _ (c .before .before .loop .inv) (omega arith) (omega arith)
+returns c = heads-over _ _ (c .before .before .loop .inv .0) (omega arith) (omega arith)
 
 -- src/capped.rt:51:13
 mul-h : tie.Need-mul-h Inv-loop μ-loop
@@ -27,15 +27,15 @@ mul-h c = omega arith
 
 -- src/capped.rt:47:5
 loop-less : tie.Need-loop-less Inv-loop μ-loop
-loop-less c = omega (arith, doubled-some _ _ (c .before .before .loop .inv))
+loop-less c = omega (arith, doubled-some _ _ (c .before .before .loop .inv .0))
 
 -- src/capped.rt:47:5
 loop-again : tie.Need-loop-again Inv-loop μ-loop
-loop-again c = doubled-next _ _ (c .before .before .loop .inv) (omega arith)
+loop-again c = (doubled-next _ _ (c .before .before .loop .inv .0) (omega arith), omega arith)
 
 -- src/capped.rt:43:1
 returns-2 : tie.Need-returns-2 Inv-loop μ-loop
-returns-2 c = let e = doubled-last _ _ (c .before .loop .inv) (omega arith) in omega (arith, e)
+returns-2 c = let e = doubled-last _ _ (c .before .loop .inv .0) (omega arith) in omega (arith, e)
 
 pub heads-spec : {M : Type 1} → statement M
 heads-spec =

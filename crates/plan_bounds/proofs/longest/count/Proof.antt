@@ -1,12 +1,14 @@
-use mathlib.Core.Path.{_≡_, refl, sym, _∙_, ap}
-use Prim.Native.Nat.{ℕ, _-_, _/_, _≤_}
+use mathlib.Core.Path.{_≡_, refl, sym, _∙_, ap, ap₂}
+use Prim.Native.Nat.{ℕ, _+_, _-_, _/_, _≤_}
 use native.Mathlib.Omega.{arith}
 use lib.Dec.{eqb}
 use lib.ListN.{length, take}
 use borrow.Author.Needs.{needs}
 use Rattle.lists.specs.Lists.{bit, countIf}
-use Rattle.lists.proofs.Bits.{bit-le}
 use Rattle.plan_bounds.proofs.Seeing.{counted-next, counted-all}
+use lib.ListN.{getD}
+use Rattle.plan_bounds.proofs.Seeing.{byte-le, byte-bit}
+use lib.Seq.{take-length}
 use Rattle.plan_bounds.proofs.longest.count.Statement.{statement}
 use Rattle.plan_bounds.proofs.longest.count.Tie as tie
 use Rattle.plan_bounds.proofs.longest.count.Reads as reads
@@ -34,11 +36,11 @@ shared-slice-read-found c = search needs
 
 -- src/longest.rt:146:18
 cast-found : tie.Need-cast-found Inv-loop μ-loop
-cast-found c = ?
+cast-found c = tt
 
 -- src/longest.rt:146:9
 add-found : tie.Need-add-found Inv-loop μ-loop
-add-found c = ?
+add-found c = omega (arith, byte-le (eqb (getD (c .before .before .before .args .entries .now) (c .before .before .loop .i) 0 / 65536) (c .before .before .before .args .label)))
 
 -- src/longest.rt:147:9
 add-i : tie.Need-add-i Inv-loop μ-loop
@@ -50,11 +52,23 @@ loop-less c = search needs
 
 -- src/longest.rt:145:5
 loop-again : tie.Need-loop-again Inv-loop μ-loop
-loop-again c = (search needs, ?, ?)
+loop-again c =
+    let a = c .before .before .before .args in
+    let i = c .before .before .loop .i in
+    let t = eqb (getD (a .entries .now) i 0 / 65536) (a .label) in (
+      search needs,
+      omega (arith, byte-le t),
+      ap₂ (λ (m n : ℕ). m + n) (c .before .before .loop .inv .2) (byte-bit t) ∙ sym (counted-next (a .label) (a .entries .now) i (c .before .loop-test .taken)),
+    )
 
 -- src/longest.rt:139:1
 returns : tie.Need-returns Inv-loop μ-loop
-returns c = ?
+returns c =
+    let a = c .before .before .args in
+    let all : c .before .loop .i ≡ length (a .entries .now) = omega arith in
+    λ some.
+    c .before .loop .inv .2 ∙ ap (λ (n : ℕ). countIf (λ (k : ℕ). eqb (k / 65536) (a .label)) (take n (a .entries .now))) all
+    ∙ ap (countIf (λ (k : ℕ). eqb (k / 65536) (a .label))) (take-length (a .entries .now)) ∙ counted-all (a .label) (a .entries .now) some
 
 pub count-spec : {M : Type 1} → statement M
 count-spec =

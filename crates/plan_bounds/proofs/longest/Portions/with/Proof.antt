@@ -13,7 +13,7 @@ add-t4 c = search needs
 
 -- src/longest.rt:48:13
 returns : tie.Need-returns
-returns c = (seen-more _ _ _ (omega arith) refl (λ e. refl) (λ n. absurd (n (c .if1 .taken))), omega arith, refl)
+returns c = (seen-more _ _ _ (omega arith) refl (λ e. refl) (λ n. absurd (n (c .before .if1 .taken))), omega arith, refl)
 
 -- src/longest.rt:56:24
 add-t5 : tie.Need-add-t5
@@ -25,7 +25,7 @@ add-t6 c = search needs
 
 -- src/longest.rt:55:13
 returns-2 : tie.Need-returns-2
-returns-2 c = (seen-more _ _ _ refl refl (λ e. absurd (c .before .if1 .left e)) (λ n. omega arith), refl, refl)
+returns-2 c = (seen-more _ _ _ refl refl (λ e. absurd (c .before .before .before .before .if1 .left e)) (λ n. omega arith), refl, refl)
 
 -- src/longest.rt:62:20
 add-t7 : tie.Need-add-t7
@@ -37,7 +37,7 @@ add-t8 c = search needs
 
 -- src/longest.rt:43:5
 returns-3 : tie.Need-returns-3
-returns-3 c = (seen-more _ _ _ refl refl (λ e. absurd (c .before .if1 .left e)) (λ n. omega arith), refl, refl)
+returns-3 c = (seen-more _ _ _ refl refl (λ e. absurd (c .before .before .before .before .if1 .left e)) (λ n. omega arith), refl, refl)
 
 pub with-spec : {M : Type 1} → statement M
 with-spec = tie.close (tie.spec add-t4 returns add-t5 add-t6 returns-2 add-t7 add-t8 returns-3)
