@@ -24,7 +24,7 @@ use Rattle.adjacency.specs.inner.Side.{listOn, verticesIn, edgesIn, sideIn, Wit
 use Rattle.adjacency.specs.inner.Portion.{listOf, portion}
 use Rattle.adjacency.proofs.Accepted.{graph-formed, store-vertices, store-edges, lookup-list}
 use Rattle.adjacency.proofs.Portions.{portion-length}
-use Rattle.query.specs.Query.{VertexSet, between}
+use Rattle.query.specs.Query.{Query, VertexSet, between}
 use Rattle.query.specs.inner.Struct.{edgeOf, queryIn}
 use Rattle.query.specs.declared.Query.{Query as QueryStruct}
 use Rattle.ordering.specs.Order.{edgesOf}
@@ -33,7 +33,7 @@ use Rattle.ordering.proofs.Tallies.{part-counts}
 use Rattle.plan_bounds.specs.Bounds.{least, longestPortion, longestFor, leastPortion, sumOfPortions}
 use Rattle.plan_bounds.specs.inner.Held.{Sided, Counts, Seen, covering}
 use Rattle.plan_bounds.specs.declared.longest.Portions.{Portions}
-use Rattle.plan_bounds.proofs.Counting.{largest-at-most, least-one, least-snoc}
+use Rattle.plan_bounds.proofs.Counting.{largest-at-most, least-at-most, least-one, least-snoc}
 
 -- ---- portions seen one by one
 
@@ -136,6 +136,10 @@ longest-few store good v e = go (eqb (e .source) v)
     go : (b : Bool) → cond b (longestPortion (graphIn store) backward (e .label)) (longestPortion (graphIn store) forward (e .label)) ≤ 1048575
     go true = each backward
     go false = each forward
+
+pub least-few : (store : List ℕ) → storeFault store ≡ 0 → (q : Query) (S : VertexSet) (v : ℕ) → leastPortion (graphIn store) q S v ≤ 1048575
+unfolding leastPortion
+least-few store good q S v = least-at-most (longestFor (graphIn store) v) 1048575 (keep (between v S) (q .edges)) (longest-few store good v)
 
 -- The side of a direction, and the portion of an edge by its end.
 module _ (store : List ℕ) (g : GraphStruct) (side : ℕ) (asked : Counts store g) where

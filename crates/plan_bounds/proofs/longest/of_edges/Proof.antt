@@ -28,7 +28,7 @@ use Rattle.query.proofs.Query.edge.Reads as edge-reads
 
 abbrev Inv-loop : tie.InvT-loop
 Inv-loop store q v set g seen₀ i₀ seen i =
-    (i ≤ q .edges) × (Seen (lengthsOf (graphIn (store .now)) q v (inMask set) i) seen × ((seen .count ≤ i) × (seen .sum ≤ i * 1048575)))
+    (i ≤ q .edges) × Seen (lengthsOf (graphIn store) q v (inMask set) i) seen × (seen .count ≤ i) × (seen .sum ≤ i * 1048575)
 
 abbrev μ-loop : tie.MeasureT-loop
 μ-loop store q v set g seen₀ i₀ seen i = q .edges - i
@@ -112,7 +112,7 @@ with-requires c κs =
     let t = c .before .before .before .before in
     let l = t .before .before in
     let few = l .before .before .before .before .pre .0 .held .edges in
-    (omega (arith, few, l .loop .inv .2 .0, t .if1 .taken), omega (arith, few, l .loop .inv .2 .1, t .if1 .taken), c .longest-for .ensures .1)
+    (omega (arith, few, l .loop .inv .2, t .if1 .taken), omega (arith, few, l .loop .inv .3, t .if1 .taken), c .longest-for .ensures .1)
 
 -- src/longest.rt:132:13
 add-i-2 : tie.Need-add-i-2 Inv-loop μ-loop
@@ -134,8 +134,8 @@ loop-again-2 c =
       rw (lengths-more (graphIn (a .store .now)) (a .q) (a .v) (inMask (a .set)) (l .loop .i) (into j (c .before .before .if2 .left)),
       ← (c .before .longest-for .ensures .0 ∙ ap (longestFor (graphIn (a .store .now)) (a .v)) same))
           (c .with .ensures .0 _ (l .loop .inv .1)),
-      omega (arith, c .with .ensures .1, l .loop .inv .2 .0),
-      omega (arith, c .with .ensures .2, l .loop .inv .2 .1, c .before .longest-for .ensures .1),
+      omega (arith, c .with .ensures .1, l .loop .inv .2),
+      omega (arith, c .with .ensures .2, l .loop .inv .3, c .before .longest-for .ensures .1),
     )
 
 -- src/longest.rt:118:1

@@ -37,7 +37,7 @@ column-requires-2 c κs = search needs
 
 -- src/pile.rt:177:9
 joined-requires : tie.Need-joined-requires
-joined-requires c κs = let s = c .before .before .before .before .before .before .before .before .before in let v = s .pre .0 .held .vertices in (rw (c .before .column .ensures) (narrow _ _ v), rw (c .column2 .ensures) (narrow _ _ v))
+joined-requires c κs = let s = c .before .before .before .before .before .before .before .before in let v = s .pre .0 .held .vertices in (rw (c .before .column .ensures) (narrow _ _ v), rw (c .column2 .ensures) (narrow _ _ v))
 
 -- src/pile.rt:175:5
 put-requires : tie.Need-put-requires
@@ -45,6 +45,7 @@ put-requires c κs = search needs
 
 -- src/pile.rt:165:1
 returns-2 : tie.Need-returns-2
+unfolding queryIn
 returns-2 c =
     let j = c .before in
     let w = j .before in
