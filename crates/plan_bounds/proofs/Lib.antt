@@ -7,3 +7,4 @@ pub mod Promised
 pub mod Seeing
 pub mod Piling
 pub mod Turning
+pub mod Answers
