@@ -94,7 +94,7 @@ fn longest_for(store: &[u32], g: Graph, e: Edge, v: usize) -> usize
     requires { ⌜ Counts (now store) g × (e .label < suc maxEdgeLabel) ⌝ }
     ensures { λ r. ⌜ (r ≡ longestFor (graphIn (now (store .entry))) v (asEdge e)) × (r ≤ maxGraphEdges) ⌝ }
 {
-    if e.source == v {
+    if v == e.source {
         return longest(store, g.vertices, g.backward(), e.label);
     }
     longest(store, g.vertices, g.forward(), e.label)

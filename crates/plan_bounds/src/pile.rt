@@ -174,7 +174,13 @@ fn after_join(q: Query, pile: Pile) -> Pile
     let set = b.set | p.set;
     pile.put(
         2,
-        joined(b, p, column(b.set, q.vertices), set, column(set, q.vertices)),
+        joined(
+            b,
+            p,
+            column(b.set, q.vertices),
+            set,
+            column(set, q.vertices),
+        ),
         0,
     )
 }

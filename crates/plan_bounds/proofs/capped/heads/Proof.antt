@@ -1,11 +1,10 @@
+-- `plan_bounds::capped::heads` meets its contract: every smaller power of two is below b, and where the last one is, the heads pass 64 bits. Assumes nothing.
 use Prim.Native.Nat.{_-_, _≤_}
 use native.Mathlib.Omega.{arith}
 use Rattle.join_key.proofs.Doubled.{Doubled, doubled-one, doubled-some, doubled-next, doubled-last}
 use Rattle.plan_bounds.proofs.Capping.{heads-over}
 use Rattle.plan_bounds.proofs.capped.heads.Statement.{statement}
 use Rattle.plan_bounds.proofs.capped.heads.Tie as tie
-use Rattle.plan_bounds.proofs.capped.heads.Reads as reads
-use Rattle.plan_bounds.proofs.capped.heads.Lts as lts
 
 abbrev Inv-loop : tie.InvT-loop
 Inv-loop b h₀ h = Doubled b h × (h ≤ 18446744073709551615)
@@ -13,27 +12,21 @@ Inv-loop b h₀ h = Doubled b h × (h ≤ 18446744073709551615)
 abbrev μ-loop : tie.MeasureT-loop
 μ-loop b h₀ h = b - h
 
--- src/capped.rt:47:5
 loop-holds : tie.Need-loop-holds Inv-loop μ-loop
 loop-holds c = (doubled-one (c .args .b), omega arith)
 
--- src/capped.rt:49:13
 returns : tie.Need-returns Inv-loop μ-loop
 returns c = heads-over _ _ (c .before .before .loop .inv .0) (omega arith) (omega arith)
 
--- src/capped.rt:51:13
 mul-h : tie.Need-mul-h Inv-loop μ-loop
 mul-h c = omega arith
 
--- src/capped.rt:47:5
 loop-less : tie.Need-loop-less Inv-loop μ-loop
 loop-less c = omega (arith, doubled-some _ _ (c .before .before .loop .inv .0))
 
--- src/capped.rt:47:5
 loop-again : tie.Need-loop-again Inv-loop μ-loop
 loop-again c = (doubled-next _ _ (c .before .before .loop .inv .0) (omega arith), omega arith)
 
--- src/capped.rt:43:1
 returns-2 : tie.Need-returns-2 Inv-loop μ-loop
 returns-2 c = let e = doubled-last _ _ (c .before .loop .inv .0) (omega arith) in omega (arith, e)
 

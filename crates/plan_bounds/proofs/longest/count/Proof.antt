@@ -1,3 +1,4 @@
+-- `plan_bounds::longest::count` meets its contract: the loop's invariant: what was found is what the label covers of the first i entries. Assumes nothing.
 use mathlib.Core.Path.{_≡_, refl, sym, _∙_, ap, ap₂}
 use Prim.Native.Nat.{ℕ, _+_, _-_, _/_, _≤_}
 use native.Mathlib.Omega.{arith}
@@ -11,8 +12,6 @@ use Rattle.plan_bounds.proofs.Seeing.{byte-le, byte-bit}
 use lib.Seq.{take-length}
 use Rattle.plan_bounds.proofs.longest.count.Statement.{statement}
 use Rattle.plan_bounds.proofs.longest.count.Tie as tie
-use Rattle.plan_bounds.proofs.longest.count.Reads as reads
-use Rattle.plan_bounds.proofs.longest.count.Lts as lts
 
 abbrev Inv-loop : tie.InvT-loop
 Inv-loop entries label found₀ i₀ found i =
@@ -21,36 +20,28 @@ Inv-loop entries label found₀ i₀ found i =
 abbrev μ-loop : tie.MeasureT-loop
 μ-loop entries label found₀ i₀ found i = length entries - i
 
--- src/longest.rt:145:5
 loop-holds : tie.Need-loop-holds Inv-loop μ-loop
 unfolding countIf
 loop-holds c = (omega arith, omega arith, refl)
 
--- src/longest.rt:146:19
 mul-found : tie.Need-mul-found Inv-loop μ-loop
 mul-found c = search needs
 
--- src/longest.rt:146:19
 shared-slice-read-found : tie.Need-shared-slice-read-found Inv-loop μ-loop
 shared-slice-read-found c = search needs
 
--- src/longest.rt:146:18
 cast-found : tie.Need-cast-found Inv-loop μ-loop
 cast-found c = tt
 
--- src/longest.rt:146:9
 add-found : tie.Need-add-found Inv-loop μ-loop
 add-found c = omega (arith, byte-le (eqb (getD (c .before .before .before .args .entries .now) (c .before .before .loop .i) 0 / 65536) (c .before .before .before .args .label)))
 
--- src/longest.rt:147:9
 add-i : tie.Need-add-i Inv-loop μ-loop
 add-i c = search needs
 
--- src/longest.rt:145:5
 loop-less : tie.Need-loop-less Inv-loop μ-loop
 loop-less c = search needs
 
--- src/longest.rt:145:5
 loop-again : tie.Need-loop-again Inv-loop μ-loop
 loop-again c =
     let a = c .before .before .before .args in
@@ -61,7 +52,6 @@ loop-again c =
       ap₂ (λ (m n : ℕ). m + n) (c .before .before .loop .inv .2) (byte-bit t) ∙ sym (counted-next (a .label) (a .entries .now) i (c .before .loop-test .taken)),
     )
 
--- src/longest.rt:139:1
 returns : tie.Need-returns Inv-loop μ-loop
 returns c =
     let a = c .before .before .args in

@@ -1,3 +1,4 @@
+-- `plan_bounds::longest::edges_of` meets its contract: the forward entries are those of the graph's edges. Assumes nothing.
 use borrow.Author.Needs.{needs}
 use mathlib.Core.Path.{_≡_, _∙_}
 use native.Mathlib.Omega.{arith}
@@ -7,57 +8,40 @@ use Rattle.ordering.proofs.Tallies.{forward-room}
 use Rattle.plan_bounds.proofs.Seeing.{edges-any, edges-label}
 use Rattle.plan_bounds.proofs.longest.edges_of.Statement.{statement}
 use Rattle.plan_bounds.proofs.longest.edges_of.Tie as tie
-use Rattle.plan_bounds.proofs.longest.edges_of.Reads as reads
-use Rattle.plan_bounds.proofs.longest.edges_of.Lts as lts
-use Rattle.graph.proofs.Graph.forward.Reads as forward-reads
-use Rattle.graph.proofs.Graph.of_store.Reads as of-store-reads
-use Rattle.plan_bounds.proofs.longest.count.Reads as count-reads
 
--- src/longest.rt:157:9
 of-store-requires : tie.Need-of-store-requires
 of-store-requires c κs = store-counts (c .before .args .store .now) (c .before .pre .0) .0
 
--- src/longest.rt:159:9
 returns : tie.Need-returns
 returns c = let s = c .before .before .before in c .before .of-store .ensures .1 ∙ edges-any (s .args .store .now) (s .pre .0) (s .args .label) (c .if1 .taken)
 
--- src/longest.rt:161:16
 forward-requires : tie.Need-forward-requires
 forward-requires c κs = let s = c .before .before .before in omega (arith, c .before .of-store .ensures .0, store-counts (s .args .store .now) (s .pre .0) .1)
 
--- src/longest.rt:161:16
 add-from : tie.Need-add-from
 add-from c = let s = c .before .before .before .before .before in omega (arith, forward-room (s .args .store .now) (s .pre .0))
 
--- src/longest.rt:161:16
 add-from-2 : tie.Need-add-from-2
 add-from-2 c = let s = c .before .before .before .before .before in omega (arith, forward-room (s .args .store .now) (s .pre .0))
 
--- src/longest.rt:162:24
 add-count : tie.Need-add-count
 add-count c = let s = c .before .before .before .before .before .before in omega (arith, forward-room (s .args .store .now) (s .pre .0), store-counts (s .args .store .now) (s .pre .0) .1)
 
--- src/longest.rt:162:11
 mul-count : tie.Need-mul-count
 mul-count c = let s = c .before .before .before .before .before .before in omega (arith, store-counts (s .args .store .now) (s .pre .0) .1)
 
--- src/longest.rt:162:11
 sub-count : tie.Need-sub-count
 sub-count c = search needs
 
--- src/longest.rt:162:11
 part-count-start : tie.Need-part-count-start
 part-count-start c = search needs
 
--- src/longest.rt:162:11
 part-count-end : tie.Need-part-count-end
 part-count-end c = let s = c .before .before .before .before .before .before in omega (arith, forward-room (s .args .store .now) (s .pre .0))
 
--- src/longest.rt:162:5
 count-requires : tie.Need-count-requires
 count-requires c κs = c .before .before .before .before .before .before .before .pre .1
 
--- src/longest.rt:153:1
 returns-2 : tie.Need-returns-2
 returns-2 c =
     let f = c .before .before .before .before in

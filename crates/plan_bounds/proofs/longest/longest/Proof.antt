@@ -1,3 +1,4 @@
+-- `plan_bounds::longest::longest` meets its contract: the loop's invariant: the most so far is that of the vertices before v. A portion is no longer than its list. Assumes nothing.
 use mathlib.Core.Path.{_≡_, refl, sym, _∙_, ap}
 use mathlib.Core.List.{List}
 use Prim.Native.Nat.{ℕ, _-_, _≤_}
@@ -13,10 +14,6 @@ use Rattle.adjacency.proofs.Accepted.{lookup-within}
 use Rattle.plan_bounds.proofs.Seeing.{lookup, portion-is, portion-in-list, longest-pass, longest-take, longest-all}
 use Rattle.plan_bounds.proofs.longest.longest.Statement.{statement}
 use Rattle.plan_bounds.proofs.longest.longest.Tie as tie
-use Rattle.plan_bounds.proofs.longest.longest.Reads as reads
-use Rattle.plan_bounds.proofs.longest.longest.Lts as lts
-use Rattle.adjacency.proofs.neighbours.Reads as neighbours-reads
-use Rattle.adjacency.proofs.portion.Reads as portion-reads
 
 abbrev Inv-loop : tie.InvT-loop
 Inv-loop store n side label most₀ v₀ most v =
@@ -36,24 +33,19 @@ seen c d e =
     let l = c .before .before .before in
     ap length (c .portion .ensures d e) ∙ portion-is _ _ _ (l .before .before .before .pre .0) _ (l .loop-test .taken) d _
 
--- src/longest.rt:76:5
 loop-holds : tie.Need-loop-holds Inv-loop μ-loop
 unfolding range largest
 loop-holds c = (omega arith, λ d e. refl)
 
--- src/longest.rt:77:12
 neighbours-requires : tie.Need-neighbours-requires Inv-loop μ-loop
 neighbours-requires c κs = lookup-within _ _ _ _ (at c)
 
--- src/longest.rt:78:13
 add-v : tie.Need-add-v Inv-loop μ-loop
 add-v c = search needs
 
--- src/longest.rt:76:5
 loop-less : tie.Need-loop-less Inv-loop μ-loop
 loop-less c = search needs
 
--- src/longest.rt:76:5
 loop-again : tie.Need-loop-again Inv-loop μ-loop
 loop-again c =
     let s = c .before .before .before .before .before in (
@@ -63,19 +55,15 @@ loop-again c =
           (le-trans (portion-in-list _ _ _ (s .pre .0) _ (c .before .before .loop-test .taken) d e (s .args .label)) (rw (c .before .neighbours .ensures) at (c .if1 .taken))),
     )
 
--- src/longest.rt:80:26
 portion-requires : tie.Need-portion-requires Inv-loop μ-loop
 portion-requires c κs = (at (c .before .before), c .before .before .before .before .before .pre .1)
 
--- src/longest.rt:83:17
 add-v-2 : tie.Need-add-v-2 Inv-loop μ-loop
 add-v-2 c = search needs
 
--- src/longest.rt:76:5
 loop-less-2 : tie.Need-loop-less-2 Inv-loop μ-loop
 loop-less-2 c = search needs
 
--- src/longest.rt:76:5
 loop-again-2 : tie.Need-loop-again-2 Inv-loop μ-loop
 loop-again-2 c =
     let l = c .before .before .before .before in
@@ -84,15 +72,12 @@ loop-again-2 c =
       λ d e. longest-take _ _ _ _ (l .before .loop .inv .1 d e) (seen (c .before) d e) (c .if2 .taken),
     )
 
--- src/longest.rt:85:17
 add-v-3 : tie.Need-add-v-3 Inv-loop μ-loop
 add-v-3 c = search needs
 
--- src/longest.rt:76:5
 loop-less-3 : tie.Need-loop-less-3 Inv-loop μ-loop
 loop-less-3 c = search needs
 
--- src/longest.rt:76:5
 loop-again-3 : tie.Need-loop-again-3 Inv-loop μ-loop
 loop-again-3 c =
     let l = c .before .before .before .before in (
@@ -100,7 +85,6 @@ loop-again-3 c =
       λ d e. longest-pass _ _ _ (l .before .loop .inv .1 d e) (rw (seen (c .before) d e) at (c .if2 .left)),
     )
 
--- src/longest.rt:70:1
 returns : tie.Need-returns Inv-loop μ-loop
 returns c =
     let s = c .before .before .before in

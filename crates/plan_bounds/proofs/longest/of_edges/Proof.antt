@@ -1,3 +1,4 @@
+-- `plan_bounds::longest::of_edges` meets its contract: the loop's invariant: the portions seen are those of the first i query edges that run between v and the set. Assumes nothing.
 use mathlib.Core.Path.{_≡_, sym, _∙_, ap}
 use mathlib.Core.Bool.{true, false}
 use Prim.Native.Nat.{ℕ, _*_, _-_, _≤_}
@@ -17,14 +18,6 @@ use Rattle.plan_bounds.specs.inner.Held.{Seen}
 use Rattle.plan_bounds.proofs.Seeing.{lengthsOf, lengths-none, lengths-skip, lengths-more, seen-all}
 use Rattle.plan_bounds.proofs.longest.of_edges.Statement.{statement}
 use Rattle.plan_bounds.proofs.longest.of_edges.Tie as tie
-use Rattle.plan_bounds.proofs.longest.of_edges.Reads as reads
-use Rattle.plan_bounds.proofs.longest.of_edges.Lts as lts
-use Rattle.graph.proofs.Graph.of_store.Reads as of-store-reads
-use Rattle.plan_bounds.proofs.longest.Portions.none.Reads as none-reads
-use Rattle.plan_bounds.proofs.longest.Portions.with.Reads as with-reads
-use Rattle.plan_bounds.proofs.longest.joins.Reads as joins-reads
-use Rattle.plan_bounds.proofs.longest.longest_for.Reads as longest-for-reads
-use Rattle.query.proofs.Query.edge.Reads as edge-reads
 
 abbrev Inv-loop : tie.InvT-loop
 Inv-loop store q v set g seen₀ i₀ seen i =
@@ -49,15 +42,12 @@ into : (c : tie.After-joins Inv-loop μ-loop) → (c .joins .result ≡ 0 → �
     between (a .v) (inMask (a .set)) (edgeOf (a .q) (l .loop .i)) ≡ true
 into c e = sym (runs c) ∙ bit-some _ (c .joins .ensures) e
 
--- src/longest.rt:123:9
 of-store-requires : tie.Need-of-store-requires Inv-loop μ-loop
 of-store-requires c κs = store-counts (c .before .args .store .now) (c .before .pre .1) .0
 
--- src/longest.rt:124:9
 none-requires : tie.Need-none-requires Inv-loop μ-loop
 none-requires c κs = tt
 
--- src/longest.rt:126:5
 loop-holds : tie.Need-loop-holds Inv-loop μ-loop
 loop-holds c =
     let a = c .before .before .before .args in (
@@ -67,25 +57,20 @@ loop-holds c =
       omega (arith, c .none .ensures .2),
     )
 
--- src/longest.rt:127:13
 edge-requires : tie.Need-edge-requires Inv-loop μ-loop
 edge-requires c κs = (c .if1 .taken, c .before .before .before .before .before .before .pre .0 .held .edges)
 
--- src/longest.rt:128:12
 joins-requires : tie.Need-joins-requires Inv-loop μ-loop
 joins-requires c κs =
     let s = c .before .before .before .before .before .before .before in
     edge-ends (s .args .q) (c .before .before .before .loop .i) (c .before .if1 .taken) (c .edge .result) (c .edge .ensures) (s .pre .0 .held)
 
--- src/longest.rt:129:13
 add-i : tie.Need-add-i Inv-loop μ-loop
 add-i c = search needs
 
--- src/longest.rt:126:5
 loop-less : tie.Need-loop-less Inv-loop μ-loop
 loop-less c = search needs
 
--- src/longest.rt:126:5
 loop-again : tie.Need-loop-again Inv-loop μ-loop
 loop-again c =
     let l = c .before .before .before .before .before in
@@ -96,7 +81,6 @@ loop-again c =
       omega arith,
     )
 
--- src/longest.rt:131:30
 longest-for-requires : tie.Need-longest-for-requires Inv-loop μ-loop
 longest-for-requires c κs =
     let e = c .before .before in
@@ -106,7 +90,6 @@ longest-for-requires c κs =
       label-byte (s .args .q) _ (e .before .if1 .taken) (e .edge .result) (e .edge .ensures) (s .pre .0),
     )
 
--- src/longest.rt:131:13
 with-requires : tie.Need-with-requires Inv-loop μ-loop
 with-requires c κs =
     let t = c .before .before .before .before in
@@ -114,15 +97,12 @@ with-requires c κs =
     let few = l .before .before .before .before .pre .0 .held .edges in
     (omega (arith, few, l .loop .inv .2, t .if1 .taken), omega (arith, few, l .loop .inv .3, t .if1 .taken), c .longest-for .ensures .1)
 
--- src/longest.rt:132:13
 add-i-2 : tie.Need-add-i-2 Inv-loop μ-loop
 add-i-2 c = search needs
 
--- src/longest.rt:126:5
 loop-less-2 : tie.Need-loop-less-2 Inv-loop μ-loop
 loop-less-2 c = search needs
 
--- src/longest.rt:126:5
 loop-again-2 : tie.Need-loop-again-2 Inv-loop μ-loop
 loop-again-2 c =
     let j = c .before .before .before in
@@ -131,14 +111,15 @@ loop-again-2 c =
     let a = l .before .before .before .before .args in
     let same = edge-read (a .q) (l .loop .i) (j .before .edge .result) (t .if1 .taken) (j .before .edge .ensures) in (
       omega (arith, t .if1 .taken),
-      rw (lengths-more (graphIn (a .store .now)) (a .q) (a .v) (inMask (a .set)) (l .loop .i) (into j (c .before .before .if2 .left)),
-      ← (c .before .longest-for .ensures .0 ∙ ap (longestFor (graphIn (a .store .now)) (a .v)) same))
+      rw (
+        lengths-more (graphIn (a .store .now)) (a .q) (a .v) (inMask (a .set)) (l .loop .i) (into j (c .before .before .if2 .left)),
+        ← (c .before .longest-for .ensures .0 ∙ ap (longestFor (graphIn (a .store .now)) (a .v)) same),
+      )
           (c .with .ensures .0 _ (l .loop .inv .1)),
       omega (arith, c .with .ensures .1, l .loop .inv .2),
       omega (arith, c .with .ensures .2, l .loop .inv .3, c .before .longest-for .ensures .1),
     )
 
--- src/longest.rt:118:1
 returns : tie.Need-returns Inv-loop μ-loop
 returns c =
     let l = c .before .before in

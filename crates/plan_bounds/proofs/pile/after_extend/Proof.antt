@@ -1,3 +1,4 @@
+-- `plan_bounds::pile::after_extend` meets its contract (`extended-to`). Assumes nothing.
 use borrow.Author.Needs.{needs}
 use mathlib.Core.Path.{_≡_, sym, _∙_, ap}
 use Prim.Native.Nat.{ℕ}
@@ -11,37 +12,22 @@ use Rattle.plan_bounds.proofs.Seeing.{least-few}
 use Rattle.plan_bounds.proofs.Turning.{narrow, extend-still, extended-to}
 use Rattle.plan_bounds.proofs.pile.after_extend.Statement.{statement}
 use Rattle.plan_bounds.proofs.pile.after_extend.Tie as tie
-use Rattle.plan_bounds.proofs.pile.after_extend.Reads as reads
-use Rattle.plan_bounds.proofs.pile.after_extend.Lts as lts
-use Rattle.plan_bounds.proofs.capped.times.Reads as times-reads
-use Rattle.plan_bounds.proofs.longest.of_edges.Reads as of-edges-reads
-use Rattle.plan_bounds.proofs.pile.Pile.put.Reads as put-reads
-use Rattle.plan_bounds.proofs.pile.Pile.under.Reads as under-reads
-use Rattle.plan_bounds.proofs.pile.extended.Reads as extended-reads
-use Rattle.query.proofs.set.only.Reads as only-reads
-use Rattle.rows.proofs.column.Reads as column-reads
 
--- src/pile.rt:152:9
 returns : tie.Need-returns
 returns c = let s = c .before .before .before in extend-still _ _ (s .args .v) (s .args .pile) (c .if1 .taken)
 
--- src/pile.rt:154:9
 under-requires : tie.Need-under-requires
 under-requires c κs = let s = c .before .before .before in (c .if1 .left, s .pre .3)
 
--- src/pile.rt:155:9
 of-edges-requires : tie.Need-of-edges-requires
 of-edges-requires c κs = let s = c .before .before .before .before in (s .pre .0, s .pre .1)
 
--- src/pile.rt:156:17
 only-requires : tie.Need-only-requires
 only-requires c κs = c .before .before .before .before .before .pre .2
 
--- src/pile.rt:159:28
 column-requires : tie.Need-column-requires
 column-requires c κs = c .before .before .before .before .before .before .before .pre .0 .held .vertices
 
--- src/pile.rt:159:9
 extended-requires : tie.Need-extended-requires
 extended-requires c κs =
     let e = c .before .before .before in
@@ -50,18 +36,15 @@ extended-requires c κs =
       omega (arith, e .of-edges .ensures .0, least-few (s .args .store .now) (s .pre .1) (queryIn (s .args .q)) (inMask (e .before .under .result .set)) (s .args .v)),
     )
 
--- src/pile.rt:160:9
 times-requires : tie.Need-times-requires
 times-requires c κs = search needs
 
--- src/pile.rt:157:5
 put-requires : tie.Need-put-requires
 put-requires c κs =
     let l = c .before .before .before .before .before .before .before in
     let s = l .before .before .before in
     (l .if1 .left, omega (arith, l .if1 .left, s .pre .3))
 
--- src/pile.rt:147:1
 returns-2 : tie.Need-returns-2
 unfolding queryIn
 returns-2 c =

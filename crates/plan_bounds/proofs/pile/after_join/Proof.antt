@@ -1,3 +1,4 @@
+-- `plan_bounds::pile::after_join` meets its contract (`joined-to`). Assumes nothing.
 use borrow.Author.Needs.{needs}
 use mathlib.Core.Path.{_≡_, refl, sym, _∙_, ap}
 use Prim.Native.Nat.{ℕ}
@@ -8,42 +9,28 @@ use Rattle.matching.specs.Row.{width}
 use Rattle.plan_bounds.proofs.Turning.{narrow, join-still, joined-to}
 use Rattle.plan_bounds.proofs.pile.after_join.Statement.{statement}
 use Rattle.plan_bounds.proofs.pile.after_join.Tie as tie
-use Rattle.plan_bounds.proofs.pile.after_join.Reads as reads
-use Rattle.plan_bounds.proofs.pile.after_join.Lts as lts
-use Rattle.plan_bounds.proofs.pile.Pile.put.Reads as put-reads
-use Rattle.plan_bounds.proofs.pile.Pile.under.Reads as under-reads
-use Rattle.plan_bounds.proofs.pile.joined.Reads as joined-reads
-use Rattle.rows.proofs.column.Reads as column-reads
 
--- src/pile.rt:170:9
 returns : tie.Need-returns
 returns c = let s = c .before .before in λ g. join-still g _ (s .args .pile) (c .if1 .taken)
 
--- src/pile.rt:172:9
 under-requires : tie.Need-under-requires
 under-requires c κs = search needs
 
--- src/pile.rt:173:9
 under-requires-2 : tie.Need-under-requires-2
 under-requires-2 c κs = search needs
 
--- src/pile.rt:177:22
 column-requires : tie.Need-column-requires
 column-requires c κs = search needs
 
--- src/pile.rt:177:54
 column-requires-2 : tie.Need-column-requires-2
 column-requires-2 c κs = search needs
 
--- src/pile.rt:177:9
 joined-requires : tie.Need-joined-requires
 joined-requires c κs = let s = c .before .before .before .before .before .before .before .before in let v = s .pre .0 .held .vertices in (rw (c .before .column .ensures) (narrow _ _ v), rw (c .column2 .ensures) (narrow _ _ v))
 
--- src/pile.rt:175:5
 put-requires : tie.Need-put-requires
 put-requires c κs = search needs
 
--- src/pile.rt:165:1
 returns-2 : tie.Need-returns-2
 unfolding queryIn
 returns-2 c =

@@ -1,3 +1,4 @@
+-- `plan_bounds::pile::after_scan` meets its contract (`scanned`). Assumes nothing.
 use borrow.Author.Needs.{needs}
 use mathlib.Core.Path.{refl, _∙_, ap}
 use Rattle.graph.specs.Store.{graphIn}
@@ -8,30 +9,19 @@ use Rattle.plan_bounds.proofs.Seeing.{edges-few}
 use Rattle.plan_bounds.proofs.Turning.{scanned}
 use Rattle.plan_bounds.proofs.pile.after_scan.Statement.{statement}
 use Rattle.plan_bounds.proofs.pile.after_scan.Tie as tie
-use Rattle.plan_bounds.proofs.pile.after_scan.Reads as reads
-use Rattle.plan_bounds.proofs.pile.after_scan.Lts as lts
-use Rattle.plan.proofs.ends.Reads as ends-reads
-use Rattle.plan_bounds.proofs.longest.edges_of.Reads as edges-of-reads
-use Rattle.plan_bounds.proofs.pile.Pile.put.Reads as put-reads
-use Rattle.query.proofs.Query.edge.Reads as edge-reads
 
--- src/pile.rt:137:9
 edge-requires : tie.Need-edge-requires
 edge-requires c κs = let s = c .before in (s .pre .2, s .pre .0 .held .edges)
 
--- src/pile.rt:139:14
 ends-requires : tie.Need-ends-requires
 ends-requires c κs = let s = c .before .before in edge-ends (s .args .q) (s .args .i) (s .pre .2) (c .edge .result) (c .edge .ensures) (s .pre .0 .held)
 
--- src/pile.rt:140:15
 edges-of-requires : tie.Need-edges-of-requires
 edges-of-requires c κs = let s = c .before .before .before in (s .pre .1, label-byte (s .args .q) (s .args .i) (s .pre .2) (c .before .edge .result) (c .before .edge .ensures) (s .pre .0))
 
--- src/pile.rt:143:5
 put-requires : tie.Need-put-requires
 put-requires c κs = search needs
 
--- src/pile.rt:133:1
 returns : tie.Need-returns
 returns c =
     let n = c .before .before in

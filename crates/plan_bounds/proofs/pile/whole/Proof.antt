@@ -1,3 +1,4 @@
+-- `plan_bounds::pile::whole` meets its contract: the loop's invariant: the pile is that of the first i operators. Assumes nothing.
 use mathlib.Core.Path.{_≡_}
 use Prim.Native.Nat.{_-_, _≤_}
 use native.Mathlib.Omega.{arith}
@@ -8,11 +9,6 @@ use Rattle.plan_file.proofs.Turns.{named-at}
 use Rattle.plan_bounds.proofs.Turning.{Turned, turned-none, turned-next, turned-deep, turned-all}
 use Rattle.plan_bounds.proofs.pile.whole.Statement.{statement}
 use Rattle.plan_bounds.proofs.pile.whole.Tie as tie
-use Rattle.plan_bounds.proofs.pile.whole.Reads as reads
-use Rattle.plan_bounds.proofs.pile.whole.Lts as lts
-use Rattle.plan.proofs.Plan.operator.Reads as operator-reads
-use Rattle.plan_bounds.proofs.pile.Pile.none.Reads as none-reads
-use Rattle.plan_bounds.proofs.pile.after.Reads as after-reads
 
 abbrev Inv-loop : tie.InvT-loop
 Inv-loop store q plan pile₀ i₀ pile i = (i ≤ plan .operators) × Turned (graphIn store) (queryIn q) plan i pile
@@ -20,19 +16,15 @@ Inv-loop store q plan pile₀ i₀ pile i = (i ≤ plan .operators) × Turned (g
 abbrev μ-loop : tie.MeasureT-loop
 μ-loop store q plan pile₀ i₀ pile i = plan .operators - i
 
--- src/pile.rt:200:9
 none-requires : tie.Need-none-requires Inv-loop μ-loop
 none-requires c κs = tt
 
--- src/pile.rt:202:5
 loop-holds : tie.Need-loop-holds Inv-loop μ-loop
 loop-holds c = let a = c .before .before .args in (omega arith, turned-none (graphIn (a .store .now)) (queryIn (a .q)) (a .plan) _ (c .none .ensures))
 
--- src/pile.rt:203:32
 operator-requires : tie.Need-operator-requires Inv-loop μ-loop
 operator-requires c κs = let s = c .before .before .before .before .before in omega (arith, c .if1 .taken, s .pre .2)
 
--- src/pile.rt:203:9
 after-requires : tie.Need-after-requires Inv-loop μ-loop
 after-requires c κs =
     let l = c .before .before .before in
@@ -43,22 +35,18 @@ after-requires c κs =
       omega (arith, turned-deep _ _ _ _ _ (l .loop .inv .1), c .before .if1 .taken, s .pre .2),
     )
 
--- src/pile.rt:204:9
 add-i : tie.Need-add-i Inv-loop μ-loop
 add-i c = search needs
 
--- src/pile.rt:202:5
 loop-less : tie.Need-loop-less Inv-loop μ-loop
 loop-less c = search needs
 
--- src/pile.rt:202:5
 loop-again : tie.Need-loop-again Inv-loop μ-loop
 loop-again c =
     let o = c .before in
     let l = o .before .before .before in
     (omega (arith, o .before .if1 .taken), turned-next _ _ _ (l .loop .i) _ _ _ (o .operator .ensures) (l .loop .inv .1) (c .after .ensures))
 
--- src/pile.rt:195:1
 returns : tie.Need-returns Inv-loop μ-loop
 returns c =
     let l = c .before .before in

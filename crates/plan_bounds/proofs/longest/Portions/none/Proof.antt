@@ -1,11 +1,9 @@
+-- `plan_bounds::longest::Portions::none` meets its contract. Assumes nothing.
 use mathlib.Core.Path.{refl}
 use Rattle.plan_bounds.proofs.Seeing.{seen-none}
 use Rattle.plan_bounds.proofs.longest.Portions.none.Statement.{statement}
 use Rattle.plan_bounds.proofs.longest.Portions.none.Tie as tie
-use Rattle.plan_bounds.proofs.longest.Portions.none.Reads as reads
-use Rattle.plan_bounds.proofs.longest.Portions.none.Lts as lts
 
--- src/longest.rt:32:5
 returns : tie.Need-returns
 returns c = (seen-none _ refl refl refl, refl, refl)
 

@@ -1,41 +1,32 @@
+-- `plan_bounds::longest::Portions::with` meets its contract (`seen-more`). Assumes nothing.
 use borrow.Author.Needs.{needs}
 use mathlib.Core.Path.{refl}
 use native.Mathlib.Omega.{arith}
 use Rattle.plan_bounds.proofs.Seeing.{seen-more}
 use Rattle.plan_bounds.proofs.longest.Portions.with.Statement.{statement}
 use Rattle.plan_bounds.proofs.longest.Portions.with.Tie as tie
-use Rattle.plan_bounds.proofs.longest.Portions.with.Reads as reads
-use Rattle.plan_bounds.proofs.longest.Portions.with.Lts as lts
 
--- src/longest.rt:51:22
 add-t4 : tie.Need-add-t4
 add-t4 c = search needs
 
--- src/longest.rt:48:13
 returns : tie.Need-returns
 returns c = (seen-more _ _ _ (omega arith) refl (λ e. refl) (λ n. absurd (n (c .before .if1 .taken))), omega arith, refl)
 
--- src/longest.rt:56:24
 add-t5 : tie.Need-add-t5
 add-t5 c = search needs
 
--- src/longest.rt:58:22
 add-t6 : tie.Need-add-t6
 add-t6 c = search needs
 
--- src/longest.rt:55:13
 returns-2 : tie.Need-returns-2
 returns-2 c = (seen-more _ _ _ refl refl (λ e. absurd (c .before .before .before .before .if1 .left e)) (λ n. omega arith), refl, refl)
 
--- src/longest.rt:62:20
 add-t7 : tie.Need-add-t7
 add-t7 c = search needs
 
--- src/longest.rt:64:18
 add-t8 : tie.Need-add-t8
 add-t8 c = search needs
 
--- src/longest.rt:43:5
 returns-3 : tie.Need-returns-3
 returns-3 c = (seen-more _ _ _ refl refl (λ e. absurd (c .before .before .before .before .if1 .left e)) (λ n. omega arith), refl, refl)
 

@@ -1,54 +1,40 @@
+-- `plan_bounds::pile::Pile::put` meets its contract (`stack-put`). Assumes nothing.
 use borrow.Author.Needs.{needs}
 use mathlib.Core.Path.{refl}
 use Rattle.plan.proofs.Stacks.{stack-put}
 use Rattle.plan_bounds.proofs.pile.Pile.put.Statement.{statement}
 use Rattle.plan_bounds.proofs.pile.Pile.put.Tie as tie
-use Rattle.plan_bounds.proofs.pile.Pile.put.Reads as reads
-use Rattle.plan_bounds.proofs.pile.Pile.put.Lts as lts
-use Rattle.plan_bounds.proofs.capped.add.Reads as add-reads
-use Rattle.plan_bounds.proofs.capped.larger.Reads as larger-reads
 
--- src/pile.rt:76:21
 sub-depth : tie.Need-sub-depth
 sub-depth c = search needs
 
--- src/pile.rt:77:9
 mul-self : tie.Need-mul-self
 mul-self c = search needs
 
--- src/pile.rt:77:9
 element-write-self : tie.Need-element-write-self
 element-write-self c = search needs
 
--- src/pile.rt:78:9
 mul-self-2 : tie.Need-mul-self-2
 mul-self-2 c = search needs
 
--- src/pile.rt:78:9
 element-write-self-2 : tie.Need-element-write-self-2
 element-write-self-2 c = search needs
 
--- src/pile.rt:79:9
 mul-self-3 : tie.Need-mul-self-3
 mul-self-3 c = search needs
 
--- src/pile.rt:79:9
 element-write-self-3 : tie.Need-element-write-self-3
 element-write-self-3 c = search needs
 
--- src/pile.rt:80:22
 add-self : tie.Need-add-self
 add-self c = search needs
 
--- src/pile.rt:81:21
 add-requires : tie.Need-add-requires
 add-requires c κs = search needs
 
--- src/pile.rt:82:24
 larger-requires : tie.Need-larger-requires
 larger-requires c κs = search needs
 
--- src/pile.rt:72:5
 returns : tie.Need-returns
 returns c =
     let s = c .before .before in

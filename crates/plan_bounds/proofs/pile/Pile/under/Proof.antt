@@ -1,44 +1,34 @@
+-- `plan_bounds::pile::Pile::under` meets its contract (`getD-stack`). Assumes nothing.
 use borrow.Author.Needs.{needs}
 use mathlib.Core.Path.{sym}
 use Rattle.plan.proofs.Stacks.{getD-stack}
 use Rattle.plan_bounds.proofs.pile.Pile.under.Statement.{statement}
 use Rattle.plan_bounds.proofs.pile.Pile.under.Tie as tie
-use Rattle.plan_bounds.proofs.pile.Pile.under.Reads as reads
-use Rattle.plan_bounds.proofs.pile.Pile.under.Lts as lts
 
--- src/pile.rt:63:18
 sub-at : tie.Need-sub-at
 sub-at c = search needs
 
--- src/pile.rt:63:18
 sub-at-2 : tie.Need-sub-at-2
 sub-at-2 c = search needs
 
--- src/pile.rt:65:18
 mul-t5 : tie.Need-mul-t5
 mul-t5 c = search needs
 
--- src/pile.rt:65:18
 element-copy-out-t9 : tie.Need-element-copy-out-t9
 element-copy-out-t9 c = search needs
 
--- src/pile.rt:66:19
 mul-t6 : tie.Need-mul-t6
 mul-t6 c = search needs
 
--- src/pile.rt:66:19
 element-copy-out-t12 : tie.Need-element-copy-out-t12
 element-copy-out-t12 c = search needs
 
--- src/pile.rt:67:19
 mul-t13 : tie.Need-mul-t13
 mul-t13 c = search needs
 
--- src/pile.rt:67:19
 element-copy-out-t16 : tie.Need-element-copy-out-t16
 element-copy-out-t16 c = search needs
 
--- src/pile.rt:59:5
 returns : tie.Need-returns
 returns c =
     let s = c .before .before .before in
