@@ -121,8 +121,8 @@ impl Store {
         Ok(Matches::new(query, plan, answer, list, records))
     }
 
-    /// Runs a plan in buffers that grow until it fits, up to [`MAX_WORDS`] words each; they keep their size for the next run. They begin at the
-    /// plan's bounds where these are at most 1,048,576 words, so that such a run is made once.
+    /// Runs a plan in buffers that grow until it fits, up to [`MAX_WORDS`] words each; they keep their size for the next run. Buffers
+    /// of no words begin at the plan's bounds where these are at most 1,048,576 words, so that such a run is made once.
     ///
     /// A run that is refused for want of room is made again from its start: with twice the scratch, which a run needs little of and which
     /// is refused as soon as the need passes it; or with eight times the list, whose want is told only after all rows are counted. What a
@@ -148,7 +148,8 @@ impl Store {
         list: &mut Vec<u32>,
         records: &mut [Record],
     ) -> Result<Run, Refusal> {
-        if let Ok(bounds) = self.bounds(query, plan) {
+        if scratch.is_empty() {
+            let bounds = self.bounds(query, plan)?;
             set_aside(scratch, bounds.scratch_words);
             set_aside(list, bounds.list_words);
         }
