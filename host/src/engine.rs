@@ -130,6 +130,46 @@ pub fn draw_plan_into(store: &[u32], query: &[u8], plan: &mut [u8]) -> Result<us
     Ok(size(bytes))
 }
 
+/// What no run of a plan passes: the words of list and scratch to set aside for it, its cost, and the rows of any of its operators. A
+/// number too large for 64 bits is given as the largest of them.
+#[derive(Clone, Copy, Debug, PartialEq, Eq)]
+pub struct Bounds {
+    pub list_words: u64,
+    pub scratch_words: u64,
+    pub cost: u64,
+    pub largest: u64,
+}
+
+impl Bounds {
+    /// All four lie below the cap of [`MAX_WORDS`]: a run whose list and scratch reach theirs is refused neither for want of room nor
+    /// for a number that passes 64 bits.
+    pub fn below_cap(&self) -> bool {
+        [self.list_words, self.scratch_words, self.cost, self.largest].iter().all(|&number| number < MAX_WORDS as u64)
+    }
+}
+
+/// Bounds a plan over a store, without a run. `rizhavaan.h` has the rules.
+pub fn bounds(store: &[u32], query: &[u8], plan: &[u8]) -> Result<Bounds, Refusal> {
+    let (mut list_words, mut scratch_words, mut cost, mut largest) = (0, 0, 0, 0);
+    // SAFETY: each pointer and length are those of one slice, and the numbers are locals.
+    let number = unsafe {
+        sys::rizhavaan_bounds(
+            store.as_ptr(),
+            store.len(),
+            query.as_ptr(),
+            query.len(),
+            plan.as_ptr(),
+            plan.len(),
+            &mut list_words,
+            &mut scratch_words,
+            &mut cost,
+            &mut largest,
+        )
+    };
+    accepted(number)?;
+    Ok(Bounds { list_words, scratch_words, cost, largest })
+}
+
 /// Runs a plan over a store: the rows are the list's first words, as many a row as the query has vertices, no two the same. The
 /// first records are those of the plan's operators, in its order; there must be one for each.
 ///

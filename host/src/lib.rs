@@ -71,8 +71,8 @@ mod store;
 pub mod sys;
 
 pub use engine::{
-    apply_changes_into, check_plan, draw_plan_into, load_into, page_into, run, Cache, Loaded, Run, MAX_DRAWN_BYTES,
-    MAX_OPERATORS, MAX_WORDS, PAGE_BYTES,
+    apply_changes_into, bounds, check_plan, draw_plan_into, load_into, page_into, run, Bounds, Cache, Loaded, Run,
+    MAX_DRAWN_BYTES, MAX_OPERATORS, MAX_WORDS, PAGE_BYTES,
 };
 pub use operator::{operators, Operator, Work};
 pub use refusal::Refusal;

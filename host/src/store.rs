@@ -1,7 +1,7 @@
 //! A store that owns its words, and buffers that grow.
 use crate::operator::Operators;
-use crate::{apply_changes_into, draw_plan_into, load_into, run};
-use crate::{Cache, Record, Refusal, Run, Work, MAX_DRAWN_BYTES, MAX_OPERATORS, MAX_WORDS};
+use crate::{apply_changes_into, bounds, draw_plan_into, load_into, run};
+use crate::{Bounds, Cache, Record, Refusal, Run, Work, MAX_DRAWN_BYTES, MAX_OPERATORS, MAX_WORDS};
 
 /// A loaded graph: the words that the engine reads.
 #[derive(Clone, Debug, PartialEq, Eq)]
@@ -94,6 +94,11 @@ impl Store {
         Ok(plan)
     }
 
+    /// Bounds a plan without a run: what to set aside for it.
+    pub fn bounds(&self, query: &[u8], plan: &[u8]) -> Result<Bounds, Refusal> {
+        bounds(&self.words, query, plan)
+    }
+
     /// Runs a query by a plan that is drawn for it, in buffers that grow, as [`Store::run_growing`] does.
     pub fn run_drawn<'b>(&self, query: &[u8], cache: Cache, buffers: &'b mut Buffers) -> Result<Matches<'b>, Refusal> {
         buffers.plan = self.draw_plan(query)?;
@@ -116,7 +121,8 @@ impl Store {
         Ok(Matches::new(query, plan, answer, list, records))
     }
 
-    /// Runs a plan in buffers that grow until it fits, up to [`MAX_WORDS`] words each; they keep their size for the next run.
+    /// Runs a plan in buffers that grow until it fits, up to [`MAX_WORDS`] words each; they keep their size for the next run. Buffers
+    /// of no words begin at the plan's bounds where these are at most 1,048,576 words, so that such a run is made once.
     ///
     /// A run that is refused for want of room is made again from its start: with twice the scratch, which a run needs little of and which
     /// is refused as soon as the need passes it; or with eight times the list, whose want is told only after all rows are counted. What a
@@ -142,6 +148,11 @@ impl Store {
         list: &mut Vec<u32>,
         records: &mut [Record],
     ) -> Result<Run, Refusal> {
+        if scratch.is_empty() {
+            let bounds = self.bounds(query, plan)?;
+            set_aside(scratch, bounds.scratch_words);
+            set_aside(list, bounds.list_words);
+        }
         loop {
             match run(&self.words, query, plan, cache, scratch, list, records) {
                 Err(Refusal::ScratchSmall) if scratch.len() < MAX_WORDS => grow(scratch, 2),
@@ -149,6 +160,16 @@ impl Store {
                 answer => return answer,
             }
         }
+    }
+}
+
+/// What a run is bounded by is set aside at once where it is little.
+const LITTLE: u64 = 1 << 20;
+
+/// At least so many words, where they are few, all of them zero if there were fewer.
+fn set_aside(buffer: &mut Vec<u32>, words: u64) {
+    if (buffer.len() as u64) < words && words <= LITTLE {
+        *buffer = vec![0; words as usize];
     }
 }
 

@@ -68,6 +68,23 @@ extern "C" {
         bytes: *mut u64,
     ) -> u32;
 
+    /// Bounds. See `rizhavaan.h`.
+    ///
+    /// # Safety
+    /// As for [`rizhavaan_load`].
+    pub fn rizhavaan_bounds(
+        store: *const u32,
+        store_len: usize,
+        query: *const u8,
+        query_len: usize,
+        plan: *const u8,
+        plan_len: usize,
+        list_words: *mut u64,
+        scratch_words: *mut u64,
+        cost: *mut u64,
+        largest: *mut u64,
+    ) -> u32;
+
     /// Run. See `rizhavaan.h`.
     ///
     /// # Safety

@@ -1,2 +1,3 @@
--- The worked cases of document 01.
+-- The worked cases of document 01, and the bounds of paper 11.
 pub mod Cases
+pub mod Bounds

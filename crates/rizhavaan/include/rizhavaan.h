@@ -145,6 +145,21 @@ uint32_t rizhavaan_draw_plan(const uint32_t *store, size_t store_len,
                              uint8_t *plan, size_t plan_len,
                              uint64_t *bytes);
 
+/* Bounds a plan over a store without a run, and gives what no run of it passes: the words of its list and of its
+ * scratch, its cost, and the rows of any of its operators. Refusals 6 to 19, 25 and 26: those of the plan, then 19.
+ *
+ * A scan is bounded by the edges of its label (label 0 has them all); an extend by the operand's rows times the least,
+ * over its query edges, of the longest portion that any vertex has for the edge's label and direction, from the
+ * covered end; a join by the product. An extend's longest set is bounded by that least, its cost by the operand's
+ * rows times the sum of those longest portions; the need follows by the sums of rizhavaan_run. A number too large for
+ * 64 bits is given as 18446744073709551615. Where all four lie below RIZHAVAAN_MAX_WORDS and list and scratch reach
+ * theirs, a run is never refused by 20, 21 or 30, whatever the cache. */
+uint32_t rizhavaan_bounds(const uint32_t *store, size_t store_len,
+                          const uint8_t *query, size_t query_len,
+                          const uint8_t *plan, size_t plan_len,
+                          uint64_t *list_words, uint64_t *scratch_words,
+                          uint64_t *cost, uint64_t *largest);
+
 /* Runs a plan over a store, and gives the number of rows, the cost, and the sums of build rows and probe rows over
  * all joins. Refusals 6 to 22, 25, 26 and 30: those of the plan, then 22, 19, 20, 30 and 21.
  *

@@ -174,6 +174,32 @@ pub fn draw_plan(r: &Random, store: &[u32], query: &[u8], room: usize) -> (u32, 
     (refusal, after)
 }
 
+/// Bounds: the refusal, and list words, scratch words, cost and largest.
+pub fn bounds(r: &Random, store: &[u32], query: &[u8], plan: &[u8]) -> (u32, [u64; 4]) {
+    let (store, query, plan) = (words(r, store), bytes(r, query), bytes(r, plan));
+    let mut numbers = Numbers::<4>::new(r);
+    let [list, scratch, cost, largest] = numbers.pointers();
+    // SAFETY: as above.
+    let refusal = unsafe {
+        sys::rizhavaan_bounds(
+            store.pointer(),
+            store.len(),
+            query.pointer(),
+            query.len(),
+            plan.pointer(),
+            plan.len(),
+            list,
+            scratch,
+            cost,
+            largest,
+        )
+    };
+    store.assert_untouched("store");
+    query.assert_untouched("query");
+    plan.assert_untouched("plan");
+    (refusal, numbers.after(refusal))
+}
+
 /// Page into so many bytes, which hold arbitrary ones: the refusal, the page count and the page. The bytes past it stay.
 pub fn page(r: &Random, list: &[u32], [n, rows, page]: [u64; 3], room: usize) -> (u32, u64, Vec<u8>) {
     let list = words(r, list);

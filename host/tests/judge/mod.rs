@@ -3,6 +3,7 @@
 #![allow(dead_code)]
 
 pub mod bits;
+pub mod bounds;
 pub mod calls;
 pub mod cases;
 pub mod changes;

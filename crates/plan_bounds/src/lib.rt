@@ -1,0 +1,46 @@
+// Bounds of a plan without a run: from a store, a query and a plan to the words of list and scratch to set aside, the cost and the largest number of
+// rows of any operator, none of which a run passes. `specs/` says what they are and what is promised of a run, `proofs/` that it is so.
+mod capped;
+mod longest;
+mod pile;
+
+ghost use mathlib.Core.Path.{_≡_};
+ghost use Rattle.plan_bounds.specs.Answer.{boundsAnswer};
+
+// What is answered: a refusal with zeros, or 0 with the four numbers, each one too large for 64 bits as the largest of them.
+pub struct BoundsAnswer {
+    pub refusal: u32,
+    pub list_words: u64,
+    pub scratch_words: u64,
+    pub cost: u64,
+    pub largest: u64,
+}
+
+impl BoundsAnswer {
+    fn refused(refusal: u32) -> Self
+        ensures { λ r. ⌜ r ≡ record { refusal = refusal; «list_words» = 0; «scratch_words» = 0; cost = 0; largest = 0 } ⌝ }
+    {
+        BoundsAnswer {
+            refusal,
+            list_words: 0,
+            scratch_words: 0,
+            cost: 0,
+            largest: 0,
+        }
+    }
+}
+
+// The bounds of a plan.
+pub fn bounds(store: &[u32], query: &[u8], plan: &[u8]) -> BoundsAnswer
+    ensures { λ r. ⌜ r ≡ boundsAnswer (now (store .entry)) (now (query .entry)) (now (plan .entry)) ⌝ }
+{
+    let fault = plan_file::check_fault(query, plan);
+    if fault != 0 {
+        return BoundsAnswer::refused(fault);
+    }
+    let fault = store::store_fault(store);
+    if fault != 0 {
+        return BoundsAnswer::refused(fault);
+    }
+    pile::answer(store, query_file::query_of(query), plan_file::plan_of(plan))
+}
