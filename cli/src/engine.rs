@@ -1,7 +1,7 @@
 //! The proved engine, by the wrapper of its static library.
 
 use library::Cache;
-use rizhavaan_core::engine::{Answer, Engine, Record, Refusal};
+use rizhavaan_core::engine::{Answer, Bounds, Engine, Record, Refusal};
 
 /// The static library.
 pub struct Library;
@@ -23,6 +23,12 @@ impl Engine for Library {
 
     fn draw_plan(&self, store: &[u32], query: &[u8], plan: &mut [u8]) -> Result<u64, Refusal> {
         library::draw_plan_into(store, query, plan).map(|bytes| bytes as u64).map_err(refused)
+    }
+
+    fn bounds(&self, store: &[u32], query: &[u8], plan: &[u8]) -> Result<Bounds, Refusal> {
+        let library::Bounds { list_words, scratch_words, cost, largest } =
+            library::bounds(store, query, plan).map_err(refused)?;
+        Ok(Bounds { list_words, scratch_words, cost, largest })
     }
 
     fn page(&self, list: &[u32], width: usize, rows: usize, page: u64, bytes: &mut [u8]) -> Result<u64, Refusal> {

@@ -138,6 +138,7 @@ operator            estimated  rows                           cost
 scan t -bolted-> p          2     2 ########################     0
 
 The cost counts the entries of neighbour lists that were looked up; the longest bar is the operator to change.
+No run of it passes 4 words of list, 2 of scratch, cost 0 and 2 rows of an operator.
 The drawn plan is the same.
 ";
     assert_eq!((status, out.as_str()), (0, expected));

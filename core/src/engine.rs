@@ -23,6 +23,16 @@ pub struct Answer {
     pub probe: u64,
 }
 
+/// What no run of a plan passes; a number too large for 64 bits is the largest of them.
+#[derive(Clone, Copy, Debug, PartialEq, Eq)]
+pub struct Bounds {
+    pub list_words: u64,
+    pub scratch_words: u64,
+    pub cost: u64,
+    /// The rows of any operator.
+    pub largest: u64,
+}
+
 /// The operations of the static library, each over slices that the caller lends.
 pub trait Engine: Sync {
     /// Load: vertices and edges.
@@ -33,6 +43,12 @@ pub trait Engine: Sync {
 
     /// Draw plan: how many bytes were written.
     fn draw_plan(&self, store: &[u32], query: &[u8], plan: &mut [u8]) -> Result<u64, Refusal>;
+
+    /// Bounds of a plan. A shell whose engine has none leaves it.
+    fn bounds(&self, store: &[u32], query: &[u8], plan: &[u8]) -> Result<Bounds, Refusal> {
+        let _ = (store, query, plan);
+        Err(Refusal(19))
+    }
 
     /// Run, with the cache on.
     fn run(

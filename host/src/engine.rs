@@ -134,9 +134,13 @@ pub fn draw_plan_into(store: &[u32], query: &[u8], plan: &mut [u8]) -> Result<us
 /// number too large for 64 bits is given as the largest of them.
 #[derive(Clone, Copy, Debug, PartialEq, Eq)]
 pub struct Bounds {
+    /// Words of the match list.
     pub list_words: u64,
+    /// Words of the scratch.
     pub scratch_words: u64,
+    /// The cost of the run.
     pub cost: u64,
+    /// The rows of any operator.
     pub largest: u64,
 }
 
