@@ -64,7 +64,7 @@ export function joined(texts) {
   return texts.map(tidy).filter((text) => text !== "").join("\n");
 }
 
-/** The lines of a comment, so that a text that was written anew keeps those of the lines that are still there. */
+/** A line without its comment, to know it again. */
 function stripped(line) {
   return line.replace(/[ \t]#.*$/, "").replace(/\s+/g, " ").trim();
 }
@@ -79,4 +79,5 @@ export function keepingComments(fresh, old) {
   return [...above, ...lines].join("\n");
 }
 
+/** How many lines stand above the head of a pattern. */
 export const linesAbove = (text) => Math.max(0, text.split("\n").findIndex((line) => /^[ \t]*\[/.test(line)));
