@@ -1,6 +1,6 @@
 // What changed: changes are written, loaded or put together, and the places are gone, new or kept.
 
-import { byId, h, fill, shown, count, duration, sentence, later } from "./dom.js";
+import { byId, h, fill, shown, count, duration, sentence, later, textWidth } from "./dom.js";
 import { state, on, emit, chosenPattern, hangRead } from "./state.js";
 import { kindClass, kindIndex, kindWords } from "./kinds.js";
 import { makeEditor } from "./editor.js";
@@ -11,6 +11,7 @@ import { changesOf } from "./files.js";
 import { isShown } from "./tabs.js";
 import { quote } from "./words.js";
 
+const CHIP = '13px Inter, "DejaVu Sans", system-ui, sans-serif';
 const SORTS = { gone: ["−", "gone"], new: ["+", "new"], kept: ["=", "kept"] };
 
 let rows = []; // { sort, names }
@@ -122,6 +123,9 @@ function drawSorts(answer) {
   }, h("b", {}, n[sort].toLocaleString("en")), ` ${SORTS[sort][1]}`);
   fill(byId("diff-sorts"), Object.keys(SORTS).map(button));
   seen = only ? rows.filter((row) => row.sort === only) : rows;
+  const long = Math.max(0, ...seen.slice(0, 2000).map((row) => row.names.reduce((sum, name) => sum + textWidth(name, CHIP) + 28, 0)));
+  rolling.node.firstChild.style.minWidth = `${Math.ceil(long) + 80}px`;
+  byId("diff-list-place").style.height = `${Math.min(300, 44 * seen.length + 18)}px`;
   rolling.set(seen.length);
   byId("diff-all").textContent = `${n.gone} gone, ${n.new} new, ${n.kept} kept: ${count(answer.before, "place")} before, ${answer.after} after, all of them.`;
 }

@@ -104,6 +104,7 @@ function patternForm(model, told) {
         type: "number", min: "0", step: "1", value: String(expect.count), "data-key": "expect-count",
         onchange: (event) => setExpect({ count: Math.max(0, Math.floor(Number(event.target.value) || 0)) }),
       }))),
+    h("button", { type: "button", id: "remove-pattern", "data-key": "remove-pattern", onclick: told.removePattern }, "Remove pattern"),
   ];
 }
 
@@ -114,7 +115,7 @@ export function drawForm(node, model, selected, kinds, told) {
     : selected?.vertex !== undefined ? vertexForm(model, selected.vertex, kinds, told)
     : selected?.edge !== undefined ? edgeForm(model, selected.edge, kinds, told)
     : selected?.pair !== undefined ? pairForm(model, selected.pair, told)
-    : patternForm(model, told);
+    : selected?.pattern ? patternForm(model, told) : [];
   fill(node, content);
   if (key) node.querySelector(`[data-key="${key}"]`)?.focus();
 }

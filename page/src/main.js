@@ -1,10 +1,11 @@
 // Where the page begins: its parts are started, and what was kept or stands in the address is taken in.
 
-import "./api.js";
+import { publish } from "./api.js";
 import { byId, h, fill, shown, count } from "./dom.js";
 import { state, on, emit } from "./state.js";
+import { runs } from "./runs.js";
 import { bring, bringExample, bringFiles, clear, examples } from "./files.js";
-import { startTabs, showTab } from "./tabs.js";
+import { startTabs, preferTab, showTab } from "./tabs.js";
 import { startHang } from "./hang.js";
 import { startPattern } from "./pattern.js";
 import { startPlaces } from "./places.js";
@@ -26,6 +27,7 @@ function drawHead() {
 
 /** After something was brought: where to look. */
 function land(brought) {
+  if (state.patterns.length) preferTab("pattern");
   if (brought?.hang?.length === 0 && !brought.patterns.length && brought.changes) showTab("changes");
   else if (state.patterns.length) showTab("places");
   else showTab("hang");
@@ -128,6 +130,7 @@ async function arrive() {
   return true;
 }
 
+publish(runs);
 startTabs();
 startHang();
 startPattern();

@@ -4,7 +4,7 @@ import { byId, h, fill, shown, count, later } from "./dom.js";
 import { state, on, emit, chosenPattern, kindsOfHang } from "./state.js";
 import { keepingComments, linesAbove, sentenceOf, titleOf } from "./sections.js";
 import { addVertex, connect, emptyPattern, isDrawn, MOST_VERTICES, patternWords, vertexName } from "./model.js";
-import { boxOf, drawSketch, extentOf, tidySpots } from "./sketch.js";
+import { drawSketch, extentOf, tidySpots } from "./sketch.js";
 import { makeGestures } from "./gestures.js";
 import { drawForm, without } from "./form.js";
 import { makeEditor } from "./editor.js";
@@ -129,7 +129,8 @@ function draw({ keepsForm = false } = {}) {
   byId("once").checked = state.once;
   byId("undo").disabled = !history.canUndo;
   byId("redo").disabled = !history.canRedo;
-  byId("remove-pattern").disabled = !pattern;
+  byId("whole-pattern").disabled = !pattern;
+  byId("whole-pattern").setAttribute("aria-expanded", String(Boolean(selected?.pattern)));
 }
 
 /** Shows the drawing as large as there is room, where it is not seen whole. */
@@ -244,6 +245,7 @@ const told = {
     say(words);
     return words ? false : true;
   },
+  removePattern,
   lastKind: () => lastEdge,
   remember: (kind) => (lastKind = kind),
   rememberEdge: (kind) => (lastEdge = kind),
@@ -348,8 +350,7 @@ export function startPattern() {
   byId("once").addEventListener("change", (event) => askOnce(event.target.checked));
   byId("pattern-choice").addEventListener("change", (event) => choosePattern(Number(event.target.value)));
   byId("new-pattern").addEventListener("click", newPattern);
-  byId("remove-pattern").addEventListener("click", removePattern);
-  byId("whole-pattern").addEventListener("click", () => told.select(null));
+  byId("whole-pattern").addEventListener("click", () => told.select(selected?.pattern ? null : { pattern: true }));
   new ResizeObserver(later(frame, 30)).observe(svg);
   on("ask-once", () => askOnce(true));
   on("ask-pattern", choosePattern);

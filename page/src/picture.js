@@ -126,6 +126,7 @@ export function startPicture() {
   new ResizeObserver(() => laid && frame(false)).observe(svg);
   on("found", foundChanged);
   on("place", placeChanged);
+  on("sketched", () => place.length && drawPicture());
   on("reading", () => drawPicture({ isFresh: true }));
   drawPicture();
 }

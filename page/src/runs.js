@@ -7,7 +7,7 @@ import { later } from "./dom.js";
 
 // Short calls over texts do not wait for a run.
 const texts = openEngine();
-const runs = openEngine();
+export const runs = openEngine();
 
 export function ask(name, args) {
   return texts.call(name, args, {});

@@ -10,7 +10,23 @@ const HEIGHT = 44;
 
 /** What stands above a vertex. */
 function labels(vertex) {
-  return [vertex.kind === null ? "any kind" : kindWords(vertex.kind), daysWords(vertex.days)].filter(Boolean);
+  const kind = vertex.kind === null ? "any kind" : kindWords(vertex.kind);
+  return [kind === vertex.name ? "" : kind, daysWords(vertex.days)].filter(Boolean);
+}
+
+/** Where they stand: above, or below or beside where connections arrive. */
+function labelSide(model, spots, v) {
+  const others = model.edges.flatMap(({ from, to }) => (from === v ? [to] : to === v ? [from] : []));
+  const isAbove = others.some((other) => spots[other].y < spots[v].y - HEIGHT / 2);
+  const isBelow = others.some((other) => spots[other].y > spots[v].y + HEIGHT / 2);
+  return !isAbove ? "above" : !isBelow ? "below" : "beside";
+}
+
+/** The lines of a label around the origin of its vertex. */
+function drawLabels(side, above, width) {
+  const top = { above: -HEIGHT / 2 - 8 - 16 * (above.length - 1), below: HEIGHT / 2 + 16, beside: 4 - 8 * (above.length - 1) }[side];
+  const place = side === "beside" ? { x: width / 2 + 8, class: "small aside" } : { x: 0, class: "small" };
+  return above.map((text, i) => s("text", { ...place, y: top + 16 * i }, text));
 }
 
 export function boxOf(model, kinds, v) {
@@ -22,7 +38,7 @@ export function boxOf(model, kinds, v) {
 /** Places for all vertices, what carries above what it carries. */
 export function tidySpots(model, kinds) {
   const graph = new globalThis.dagre.graphlib.Graph();
-  graph.setGraph({ rankdir: "TB", nodesep: 36, ranksep: 54 });
+  graph.setGraph({ rankdir: "TB", nodesep: 52, ranksep: 54 });
   graph.setDefaultEdgeLabel(() => ({}));
   model.vertices.forEach((vertex, v) => {
     const above = labels(vertex);
@@ -34,7 +50,7 @@ export function tidySpots(model, kinds) {
   const { width = 0, height = 0 } = graph.graph();
   return model.vertices.map((vertex, v) => {
     const { x, y } = graph.node(String(v));
-    return { x: x - width / 2, y: y - height / 2 + (17 * labels(vertex).length) / 2 };
+    return { x: x - width / 2, y: y - height / 2 };
   });
 }
 
@@ -42,9 +58,12 @@ export function tidySpots(model, kinds) {
 export function extentOf(model, kinds, spots) {
   const boxes = spots.map((spot, v) => {
     const { width } = boxOf(model, kinds, v);
-    const above = labels(model.vertices[v]);
-    const wide = Math.max(width, ...above.map((text) => textWidth(text, SMALL)));
-    return [spot.x - wide / 2, spot.y - HEIGHT / 2 - 17 * above.length, spot.x + wide / 2, spot.y + HEIGHT / 2];
+    const lines = labels(model.vertices[v]);
+    const side = labelSide(model, spots, v);
+    const long = Math.max(0, ...lines.map((text) => textWidth(text, SMALL)));
+    const wide = side === "beside" ? width : Math.max(width, long);
+    const [above, below] = ["above", "below"].map((each) => (side === each ? 17 * lines.length : 0));
+    return [spot.x - wide / 2, spot.y - HEIGHT / 2 - above, spot.x + wide / 2 + (side === "beside" ? long + 10 : 0), spot.y + HEIGHT / 2 + below];
   });
   const [x, y] = [0, 1].map((i) => Math.min(...boxes.map((box) => box[i])));
   const [right, bottom] = [2, 3].map((i) => Math.max(...boxes.map((box) => box[i])));
@@ -93,7 +112,7 @@ function drawVertex(model, kinds, spots, v, { selected, faulty, connecting }) {
   },
   s("path", { class: "shape", d: outline(index, width, height) }),
   s("text", { class: "name", y: 5 }, name),
-  above.map((text, i) => s("text", { class: "small", y: -HEIGHT / 2 - 8 - 16 * (above.length - 1 - i) }, text)));
+  drawLabels(labelSide(model, spots, v), above, width));
 }
 
 function drawEdge(model, kinds, spots, e, bend, { selected, faultyLines }) {
@@ -116,7 +135,8 @@ function drawEdge(model, kinds, spots, e, bend, { selected, faultyLines }) {
 
 /** A pair: the two in one order only, so that mirror images stand once. */
 function drawPair(model, kinds, spots, pair, p, { selected }) {
-  const { d, at } = curve(model, kinds, spots, pair.low, pair.high, -16);
+  const isJoined = model.edges.some(({ from, to }) => [from, to].includes(pair.low) && [from, to].includes(pair.high));
+  const { d, at } = curve(model, kinds, spots, pair.low, pair.high, isJoined ? -40 : 0);
   const words = isMirror(model, pair) ? "in any order" : `${vertexName(model, pair.low)} < ${vertexName(model, pair.high)}`;
   const width = textWidth(words, SMALL) + 10;
   const own = p === null ? {} : {
@@ -126,8 +146,7 @@ function drawPair(model, kinds, spots, pair, p, { selected }) {
   return s("g", { class: `pair ${selected?.pair === p && p !== null ? "chosen" : ""}`, ...own },
     p === null ? null : s("rect", { class: "reach", x: at.x - Math.max(44, width) / 2, y: at.y - 22, width: Math.max(44, width), height: 44 }),
     s("path", { class: "way", d }),
-    s("rect", { class: "plate", x: at.x - width / 2, y: at.y - 9, width, height: 18, rx: 4 }),
-    s("text", { class: "small", x: at.x, y: at.y + 4 }, words));
+    s("text", { class: "small", x: at.x, y: at.y - 7 }, words));
 }
 
 /** All parts of the drawing. `added` are the pairs that 'in any order' adds. */

@@ -30,6 +30,12 @@ function draw() {
   }
 }
 
+/** Has a part shown on its side without going there. */
+export function preferTab(name) {
+  shownTab[SIDE[name]] = name;
+  draw();
+}
+
 export function showTab(name) {
   shownTab[SIDE[name]] = name;
   document.body.dataset.side = SIDE[name];
