@@ -50,8 +50,11 @@ fn add(answer: &mut Object, reading: &Reading, document: &Document) -> Option<Ve
         }),
         None => answer.put("hang", &Value::Null),
     }
-    let patterns: Vec<PatternJson> =
-        document.patterns.iter().map(|pattern| PatternJson { document, pattern, texts: &reading.texts, before: 0 }).collect();
+    let patterns: Vec<PatternJson> = document
+        .patterns
+        .iter()
+        .map(|pattern| PatternJson { document, pattern, texts: &reading.texts, before: 0 })
+        .collect();
     answer.put("patterns", &patterns);
     let list: Option<Vec<Value>> = document.changes.as_ref().map(|changes| {
         let change = |c: &rizhavaan_core::packed::change::Change| {
@@ -102,7 +105,8 @@ impl Serialize for Item<'_> {
         }
         if !self.notes.is_empty() {
             let column = |column: u32| hang.notes.columns[column as usize].as_str();
-            let notes: BTreeMap<&str, &str> = self.notes.iter().map(|(_, c, value)| (column(*c), value.as_str())).collect();
+            let notes: BTreeMap<&str, &str> =
+                self.notes.iter().map(|(_, c, value)| (column(*c), value.as_str())).collect();
             map.serialize_entry("notes", &notes)?;
         }
         if hang.names.get(self.number).is_none() {

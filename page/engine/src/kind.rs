@@ -51,7 +51,9 @@ impl<'d> Listed<'d> {
         for label in used.filter(|&label| label != 0) {
             others[label as usize] = true;
         }
-        labels.extend((0..).zip(&others).filter(|&(label, is_used)| *is_used && kinds.name(label).is_none()).map(|(l, _)| l));
+        labels.extend(
+            (0..).zip(&others).filter(|&(label, is_used)| *is_used && kinds.name(label).is_none()).map(|(l, _)| l),
+        );
         Listed { kinds, labels }
     }
 

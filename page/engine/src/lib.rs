@@ -26,8 +26,7 @@ struct State {
     lists: Vec<Vec<u32>>,
 }
 
-static mut STATE: State =
-    State { buffer: Vec::new(), sources: Vec::new(), answer: String::new(), lists: Vec::new() };
+static mut STATE: State = State { buffer: Vec::new(), sources: Vec::new(), answer: String::new(), lists: Vec::new() };
 
 /// The module has one thread, and no call is made from within another.
 fn state() -> &'static mut State {

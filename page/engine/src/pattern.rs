@@ -58,9 +58,7 @@ impl PatternJson<'_> {
 
     fn edges(&self) -> Vec<Value> {
         let kinds = &self.document.connection_kinds;
-        let edge = |e: &rizhavaan_core::packed::edge::Edge| {
-            json!({ "from": e.source, "to": e.target, "kind": Kind { kinds, label: e.label } })
-        };
+        let edge = |e: &rizhavaan_core::packed::edge::Edge| json!({ "from": e.source, "to": e.target, "kind": Kind { kinds, label: e.label } });
         self.pattern.query.edges.iter().map(edge).collect()
     }
 
