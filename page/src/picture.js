@@ -125,6 +125,10 @@ export function startPicture() {
   byId("zoom-all").addEventListener("click", () => laid && zoom.show({ x: 0, y: 0, width: laid.width, height: laid.height }, { most: 1.25, isSmooth: true }));
   new ResizeObserver(() => laid && frame(false)).observe(svg);
   on("found", foundChanged);
+  // The numbers of items are those of one hang.
+  on("hang brought", () => {
+    [place, extra, tinted] = [[], [], new Set()];
+  });
   on("place", placeChanged);
   on("sketched", () => place.length && drawPicture());
   on("reading", () => drawPicture({ isFresh: true }));

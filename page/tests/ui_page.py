@@ -1,16 +1,9 @@
 """The page in a real browser, as a person has it: opened from disk, wide or on a phone, by pointer, by touch and by keyboard."""
 
-import contextlib
 import os
 import pathlib
-import shutil
-import tempfile
 import time
-import unittest
 
-from selenium import webdriver
-from selenium.webdriver.chrome.options import Options
-from selenium.webdriver.chrome.service import Service
 from selenium.webdriver.common.action_chains import ActionChains
 from selenium.webdriver.common.actions.action_builder import ActionBuilder
 from selenium.webdriver.common.actions.interaction import POINTER_TOUCH
@@ -18,75 +11,55 @@ from selenium.webdriver.common.actions.pointer_input import PointerInput
 from selenium.webdriver.common.by import By
 from selenium.webdriver.common.keys import Keys
 
-ROOT = pathlib.Path(__file__).resolve().parents[2]
-FILE = pathlib.Path(os.environ.get("PAGE", ROOT / "page" / "rizhavaan.html"))
+import harness
+from harness import Browser
+
 WIDE = (1280, 800)
 PHONE = (360, 740)
 PATIENCE = float(os.environ.get("PATIENCE", "20"))
 
 
-class Page:
+class Page(Browser):
     """A browser with the page in it. `size` is wide or a phone, which has fingers."""
 
-    def __init__(self, size=WIDE):
-        self.folder = tempfile.mkdtemp(prefix="page-")
+    def __init__(self, size=WIDE, **more):
         self.is_phone = size == PHONE
-        options = Options()
-        options.binary_location = "/usr/bin/chromium"
-        for argument in ["--headless=new", "--no-sandbox", "--disable-dev-shm-usage", f"--window-size={size[0]},{size[1]}", "--lang=en-US"]:
-            options.add_argument(argument)
-        options.add_experimental_option("prefs", {"download.default_directory": self.folder, "download.prompt_for_download": False})
-        options.set_capability("goog:loggingPrefs", {"browser": "ALL", "performance": "ALL"})
-        if self.is_phone:
-            metrics = {"width": size[0], "height": size[1], "pixelRatio": 1, "touch": True, "mobile": True}
-            options.add_experimental_option("mobileEmulation", {"deviceMetrics": metrics})
-        self.driver = webdriver.Chrome(service=Service("/usr/bin/chromedriver"), options=options)
-        if not self.is_phone:
-            self.cdp("Emulation.setDeviceMetricsOverride", width=size[0], height=size[1], deviceScaleFactor=1, mobile=False)
+        super().__init__(width=size[0], height=size[1], touch=self.is_phone, **more)
 
     def cdp(self, name, **parameters):
         return self.driver.execute_cdp_cmd(name, parameters)
 
-    def close(self):
-        self.driver.quit()
-        shutil.rmtree(self.folder, ignore_errors=True)
-
     # What is seen.
 
-    def open(self, part="", fresh=True):
-        """Opens the page from disk, with nothing kept from before."""
-        self.driver.get("about:blank")
-        self.driver.get(FILE.as_uri())
+    def open(self, fragment="", fresh=True):
+        """Opens the page from disk; with nothing kept from before where it is to be fresh."""
         if fresh:
-            self.js("localStorage.clear(); for (const type of ['pagehide']) addEventListener(type, (e) => e.stopImmediatePropagation(), true);")
+            self.driver.get(self.page.as_uri() + "#fresh")
+            self.look("localStorage.clear(); Storage.prototype.setItem = () => {};")
         self.driver.get("about:blank")
-        if fresh:
-            self.driver.get(FILE.as_uri())
-            self.js("localStorage.clear()")
-            self.driver.get("about:blank")
-        self.driver.get(FILE.as_uri() + part)
-        self.until(lambda: self.js("return Boolean(window.rizhavaan)"), "the page has begun")
+        self.driver.get(self.page.as_uri() + fragment)
+        self.until(lambda: self.look("return Boolean(window.rizhavaan)"), "the page has begun")
 
-    def js(self, script, *arguments):
+    def look(self, script, *arguments):
         return self.driver.execute_script(script, *arguments)
 
-    def find(self, css):
+    def node(self, css):
         return self.driver.find_element(By.CSS_SELECTOR, css)
 
     def all(self, css):
         return self.driver.find_elements(By.CSS_SELECTOR, css)
 
     def text(self, css):
-        return self.js("return document.querySelector(arguments[0])?.textContent.trim() ?? ''", css)
+        return self.look("return document.querySelector(arguments[0])?.textContent.trim() ?? ''", css)
 
     def texts(self, css):
-        return self.js("return [...document.querySelectorAll(arguments[0])].map((node) => node.textContent.trim())", css)
+        return self.look("return [...document.querySelectorAll(arguments[0])].map((node) => node.textContent.trim())", css)
 
     def value(self, css):
-        return self.js("return document.querySelector(arguments[0]).value", css)
+        return self.look("return document.querySelector(arguments[0]).value", css)
 
     def is_seen(self, css):
-        return self.js("const n = document.querySelector(arguments[0]); return Boolean(n) && n.getClientRects().length > 0", css)
+        return self.look("const n = document.querySelector(arguments[0]); return Boolean(n) && n.getClientRects().length > 0", css)
 
     def until(self, is_so, what):
         end = time.monotonic() + PATIENCE
@@ -105,33 +78,19 @@ class Page:
         """The rows of the list that are in the document, by names."""
         script = """return [...document.querySelectorAll('#list .row')].sort((a, b) => a.dataset.row - b.dataset.row)
                       .map((row) => [...row.querySelectorAll('.chip')].map((chip) => chip.textContent))"""
-        return self.js(script)
+        return self.look(script)
 
     def until_places(self, n):
         words = f"{n:,} place{'' if n == 1 else 's'}"
-        self.until(lambda: self.text("#places-title") == words and self.js("return document.getElementById('places').getAttribute('aria-busy') !== 'true'"), words)
+        self.until(lambda: self.text("#places-title") == words and self.look("return document.getElementById('places').getAttribute('aria-busy') !== 'true'"), words)
 
     def marked(self):
         return sorted(self.texts("#rig-content .item.marked text"))
 
-    def requests(self):
-        """What the browser asked for, by its own log, beside the file itself and what is made inside it."""
-        import json
-
-        asked = []
-        for entry in self.driver.get_log("performance"):
-            message = json.loads(entry["message"])["message"]
-            if message["method"] == "Network.requestWillBeSent":
-                asked.append(message["params"]["request"]["url"])
-        return [url for url in asked if not url.startswith(("blob:", "data:", "about:", "chrome:")) and not url.startswith(FILE.as_uri())]
-
-    def complaints(self):
-        return [entry["message"] for entry in self.driver.get_log("browser") if entry["level"] in ("SEVERE", "ERROR")]
-
     # What a person does.
 
     def middle(self, css, dx=0, dy=0):
-        box = self.js(
+        box = self.look(
             "const n = typeof arguments[0] === 'string' ? document.querySelector(arguments[0]) : arguments[0];"
             "n.scrollIntoView({ block: 'nearest', inline: 'nearest' }); const b = n.getBoundingClientRect(); return [b.x + b.width / 2, b.y + b.height / 2]",
             css,
@@ -176,7 +135,7 @@ class Page:
     def tab_to(self, css, most=80, back=False):
         """By the Tab key alone."""
         for _ in range(most):
-            if self.js("return document.activeElement?.matches(arguments[0]) ?? false", css):
+            if self.look("return document.activeElement?.matches(arguments[0]) ?? false", css):
                 return
             if back:
                 self.chord(Keys.SHIFT, Keys.TAB)
@@ -186,7 +145,7 @@ class Page:
 
     def choose(self, css, words):
         """Picks an option by its words."""
-        node = self.find(css)
+        node = self.node(css)
         option = [each for each in node.find_elements(By.TAG_NAME, "option") if each.text.strip() == words]
         if not option:
             raise AssertionError(f"{css} has no option {words!r}: {[each.text for each in node.find_elements(By.TAG_NAME, 'option')]}")
@@ -194,14 +153,14 @@ class Page:
 
     def write(self, css, text):
         """A text by the keyboard, in place of what stands there."""
-        node = self.find(css)
+        node = self.node(css)
         node.click()
         node.send_keys(Keys.CONTROL, "a")
         node.send_keys(Keys.DELETE)
         node.send_keys(text)
 
     def bring(self, *paths):
-        self.find("#file").send_keys("\n".join(str(path) for path in paths))
+        self.node("#file").send_keys("\n".join(str(path) for path in paths))
 
     def example(self, name="stage-rig"):
         self.open(f"#example={name}")
@@ -225,35 +184,19 @@ class Page:
         found = []
 
         def is_there():
-            found[:] = [p for p in pathlib.Path(self.folder).iterdir() if p.name.endswith(ending) and not p.name.endswith(".crdownload")]
+            folder = self.saved
+            found[:] = [p for p in (folder.iterdir() if folder.exists() else []) if p.name.endswith(ending) and not p.name.endswith(".crdownload")]
             return bool(found)
 
         self.until(is_there, f"a file {ending} is saved")
         return found[0]
 
 
-class PageTest(unittest.TestCase):
-    """Tests that share a browser; each fails where the page complained or asked for something."""
+class PageTest(harness.PageTest):
+    """Tests by a person in one window, wide or a phone."""
 
     size = WIDE
 
     @classmethod
     def setUpClass(cls):
-        cls.page = Page(cls.size)
-
-    @classmethod
-    def tearDownClass(cls):
-        cls.page.close()
-
-    def tearDown(self):
-        self.assertEqual(self.page.complaints(), [])
-        self.assertEqual(self.page.requests(), [], "a request left")
-
-
-@contextlib.contextmanager
-def phone():
-    page = Page(PHONE)
-    try:
-        yield page
-    finally:
-        page.close()
+        cls.browser = cls.page = Page(cls.size)

@@ -53,17 +53,19 @@ class Places(PageTest):
         self.page.until_places(1)
         self.choose_pattern("over-people")
         self.page.until_places(8)
-        self.page.find("#filter").send_keys("lamp-1 motor-2")
+        self.page.node("#filter").send_keys("lamp-1 motor-2")
         self.page.until(lambda: self.page.rows() == [["beam-north", "motor-2", "front-truss", "lamp-1"]], "one row is left")
         self.assertEqual(self.page.text("#places-title"), "8 places")
         self.assertEqual(self.page.text("#places-all"), "1 of 8 places shown. 8 places, all of them.")
-        self.page.find("#filter").send_keys(Keys.CONTROL, "a", Keys.DELETE)
-        self.page.until(lambda: len(self.page.rows()) == 8, "all rows are back")
+        self.page.node("#filter").send_keys(Keys.CONTROL, "a", Keys.DELETE)
+        self.page.until(lambda: len(self.page.rows()) > 3 and self.page.text("#places-all") == "8 places, all of them.", "all rows are back")
+        self.page.tap("#columns button:nth-of-type(2)")
+        upwards = ["motor 4 (spare)", "motor-1", "motor-1", "motor-2", "motor-2", "motor-3", "motor-3", "motor-5"]
+        motors = [row[1] for row in self.page.rows()]
+        self.assertEqual(motors, upwards[: len(motors)])
         self.page.tap("#columns button:nth-of-type(2)")
         motors = [row[1] for row in self.page.rows()]
-        self.assertEqual(motors, sorted(motors))
-        self.page.tap("#columns button:nth-of-type(2)")
-        self.assertEqual([row[1] for row in self.page.rows()], sorted(motors, reverse=True))
+        self.assertEqual(motors, upwards[::-1][: len(motors)])
         self.page.tap("#columns button:nth-of-type(2)")
         self.assertEqual(self.page.text("#columns button:nth-of-type(2)"), "motor")
 
@@ -91,7 +93,7 @@ class PlacesWide(Places):
         self.page.until(lambda: self.page.text("#step-words") == "8 of 8", "the last")
         self.page.keys(Keys.ARROW_UP, Keys.HOME)
         self.page.until(lambda: self.page.text("#step-words") == "1 of 8", "the first")
-        active = self.page.js("return document.activeElement.getAttribute('aria-activedescendant')")
+        active = self.page.look("return document.activeElement.getAttribute('aria-activedescendant')")
         self.assertEqual(active, "list-0")
 
     def test_a_long_list_scrolls(self):
@@ -102,13 +104,13 @@ class PlacesWide(Places):
         self.assertEqual(self.page.text("#places-all"), f"{n * n:,} places, all of them.")
         self.assertLess(len(self.page.all("#list .row")), 60)
         self.assertEqual(self.page.rows()[0], ["m0", "t0"])
-        self.page.find("#list").click()
+        self.page.node("#list").click()
         self.page.keys(Keys.END)
         self.page.until(lambda: self.page.rows()[-1] == [f"m{n - 1}", f"t{n - 1}"], "the last row")
         self.assertLess(len(self.page.all("#list .row")), 60)
-        self.page.js("const list = document.getElementById('list'); list.scrollTop = list.scrollHeight / 2")
+        self.page.look("const list = document.getElementById('list'); list.scrollTop = list.scrollHeight / 2")
         self.page.until(lambda: self.page.rows()[0][0] in ("m158", "m159", "m160"), "the middle")
-        self.page.find("#filter").send_keys("m7 t9")
+        self.page.node("#filter").send_keys("m7 t9")
         self.page.until(lambda: ["m7", "t9"] in self.page.rows() and "of 102,400" in self.page.text("#places-all"), "filtered")
         self.assertIn("of 640 items, around the place", self.page.text("#rig-small"))
         self.assertLessEqual(len(self.page.all("#rig-content .item")), 60)
@@ -131,7 +133,7 @@ class PlacesWide(Places):
     def test_memory_that_ends_is_said(self):
         self.page.example()
         self.page.until_places(1)
-        self.page.js("window.rizhavaan.engine.call = () => Promise.reject({ words: 'memory ended: 2000 MB were in use', fault: null })")
+        self.page.look("window.rizhavaan.engine.call = () => Promise.reject({ words: 'memory ended: 2000 MB were in use', fault: null })")
         self.page.tap("#once")
         self.page.until(lambda: self.page.text("#places-title") == "No list", "no list")
         self.assertIn("Memory ended: 2000 MB were in use.", self.page.text("#places-words"))
@@ -139,7 +141,7 @@ class PlacesWide(Places):
         self.assertFalse(self.page.is_seen("#places-all"))
 
     def view(self):
-        return self.page.js("return document.getElementById('rig-content').getAttribute('transform')")
+        return self.page.look("return document.getElementById('rig-content').getAttribute('transform')")
 
     def test_the_picture_moves_and_zooms(self):
         self.page.example()
@@ -155,7 +157,7 @@ class PlacesWide(Places):
         self.assertGreater(float(larger.split("scale(")[1][:-1]), float(moved.split("scale(")[1][:-1]))
         self.page.tap("#zoom-all")
         self.page.until(lambda: abs(float(self.view().split("scale(")[1][:-1]) - float(before.split("scale(")[1][:-1])) < 0.01, "all is seen")
-        self.page.js("document.getElementById('rig-drawing').focus()")
+        self.page.look("document.getElementById('rig-drawing').focus()")
         self.page.keys("+")
         self.assertGreater(float(self.view().split("scale(")[1][:-1]), float(before.split("scale(")[1][:-1]))
 
@@ -166,7 +168,7 @@ class PlacesOnAPhone(Places):
     def test_two_fingers_zoom(self):
         self.page.example()
         self.page.until_places(1)
-        scale = lambda: float(self.page.js("return document.getElementById('rig-content').getAttribute('transform')").split("scale(")[1][:-1])
+        scale = lambda: float(self.page.look("return document.getElementById('rig-content').getAttribute('transform')").split("scale(")[1][:-1])
         self.page.until(lambda: scale() > 0, "a picture")
         before = scale()
         self.page.pinch("#rig-drawing", 30, 90)
