@@ -12,7 +12,7 @@ function kindChoice(label, kinds, kind, used, onChange) {
   for (const other of [kind, ...used]) if (other !== null && other !== undefined && !known.includes(other)) known.push(other);
   const options = [[ANY, "any"], ...known.map((each, i) => [String(i), kindWords(each)])];
   const value = kind === null ? ANY : String(known.indexOf(kind));
-  return field(label, choice({ "data-key": `kind-${label}`, onchange: (event) => onChange(event.target.value === ANY ? null : known[Number(event.target.value)]) }, options, value));
+  return field(label, choice({ "data-key": `kind-${label}`, onchange: (event) => onChange(event.target.value === ANY ? null : known[Number(event.target.value)], event.target) }, options, value));
 }
 
 /** A day as a date field; a day that the text has as a number stands as that. */
@@ -45,10 +45,12 @@ function vertexForm(model, v, kinds, told) {
         type: "text", value: vertex.name ?? "", "data-key": "name", autocomplete: "off", autocapitalize: "off",
         oninput: (event) => told.edit((m) => (m.vertices[v].name = event.target.value.trim() || null), { keepsForm: true }),
       })),
-      kindChoice("Kind", kinds?.items, vertex.kind, usedKinds(model.vertices), (kind) => told.edit((m) => {
-        setKind(m, v, kind);
+      kindChoice("Kind", kinds?.items, vertex.kind, usedKinds(model.vertices), (kind, select) => {
+        // The field stays, so that its keys go on; a name that was made of the kind follows.
         told.remember(kind);
-      })),
+        told.edit((m) => setKind(m, v, kind), { keepsForm: true });
+        select.closest(".fields").querySelector("[data-key=name]").value = told.model().vertices[v].name ?? "";
+      }),
       dayField("Inspected from", "first", days.first, (first) => setDays({ first })),
       dayField("Inspected until", "last", days.last, (last) => setDays({ last }))),
     days.first === null && days.last !== null ? h("p", { class: "hint" }, "An item without a day counts as inspected before every date.") : null,
@@ -61,12 +63,13 @@ function vertexForm(model, v, kinds, told) {
 
 function edgeForm(model, e, kinds, told) {
   const edge = model.edges[e];
-  const change = (what) => told.edit((m) => told.say(changeEdge(m, e, what)));
+  const change = (what, more) => told.edit((m) => told.say(changeEdge(m, e, what)), more);
   return [
     h("p", { class: "hint" }, `${vertexName(model, edge.from)} → ${vertexName(model, edge.to)}`),
     h("div", { class: "fields" }, kindChoice("Connection", kinds?.connections, edge.kind, usedKinds(model.edges), (kind) => {
-      told.rememberEdge(kind);
-      change({ kind });
+      change({ kind }, { keepsForm: true });
+      if (told.model().edges[e].kind === kind) told.rememberEdge(kind);
+      else told.select({ edge: e });
     })),
     h("div", { class: "line-up" },
       h("button", { type: "button", "data-key": "turn", onclick: () => change({ from: edge.to, to: edge.from }) }, "Turn round"),

@@ -57,10 +57,10 @@ async function readText() {
   }
   const answer = await ask("pattern", { text: pattern.text, kinds: kindsOfHang() }).catch((failure) => ({ errors: [], warnings: [], failed: failure.words }));
   if (mine !== version || pattern !== chosenPattern()) return;
-  tellFaults(answer, 0);
   if (answer.pattern) adopt(answer.pattern);
   else if (pattern.model) adopt(pattern.model);
   else state.pattern ??= emptyPattern(titleOf(pattern.text));
+  tellFaults(answer, 0);
   settleSelection();
   draw();
   emit("sketched");
@@ -76,7 +76,9 @@ function settleSelection() {
 
 function tellFaults(answer, above) {
   const besides = [answer.pattern?.fault, answer.pattern?.planFault].filter(Boolean);
-  faults = [...(answer.errors ?? []), ...(answer.warnings ?? []), ...besides].map((fault) => ({ ...fault, line: fault.line + above }));
+  const all = [...(answer.errors ?? []), ...(answer.warnings ?? []), ...besides].map((fault) => ({ ...fault, line: fault.line + above }));
+  // A drawing that has only begun is no fault.
+  faults = isDrawn(state.pattern) ? all : all.filter((fault) => !fault.reason.startsWith("too few"));
   editor.setFaults(faults);
 }
 
@@ -240,6 +242,7 @@ function connected(answer) {
 
 const told = {
   edit,
+  model: () => state.pattern,
   connected,
   say: (words) => {
     say(words);

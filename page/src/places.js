@@ -3,6 +3,7 @@
 import { byId, h, fill, shown, count, duration, sentence, later, textWidth } from "./dom.js";
 import { state, on, emit, chosenPattern, hangRead } from "./state.js";
 import { kindClass, kindIndex } from "./kinds.js";
+import { isDrawn } from "./model.js";
 import { makeRolling } from "./rolling.js";
 import { find, findLane, PATTERN_FILE } from "./runs.js";
 
@@ -176,6 +177,7 @@ function draw() {
   if (!chosenPattern()) return tell("Places", "Draw a pattern: what to look for in the hang.");
   if (!found) return tell("Places", "");
   if (found.cancelled) return tell("No list", `Cancelled after ${duration(found.ms)}. There is no list.`, { isBad: true, action: again() });
+  if (found.errors && !isDrawn(state.pattern) && hangRead()) return tell("Places", "A pattern has two items at least, and a connection between them.");
   if (found.errors) return tell("No list", faultWords(found.errors), { isBad: true });
   if (found.failed) return tell("No list", sentence(found.failed), { isBad: true, action: again() });
   current = found;
@@ -199,7 +201,8 @@ function draw() {
 function faultWords(errors) {
   const isPattern = errors.every((fault) => fault.file === PATTERN_FILE);
   const where = isPattern ? "The pattern" : "The hang";
-  return `${where} has ${count(errors.length, "fault")}: ${sentence(errors[0].reason)} They are marked beside their lines.`;
+  const marked = errors.length === 1 ? "It is marked beside its line." : "They are marked beside their lines.";
+  return `${where} has ${count(errors.length, "fault")}: ${sentence(errors[0].reason)} ${marked}`;
 }
 
 export function startPlaces() {

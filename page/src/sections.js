@@ -8,16 +8,23 @@ function unquoted(name) {
   return name.startsWith('"') ? name.slice(1, -1).replaceAll('""', '"') : name;
 }
 
+/** Where a section begins: above its head, where comments stand between a blank line and it. */
+function beginOf(text, head) {
+  const above = /(?:^|\n[ \t\r]*\n)((?:[ \t]*#[^\n]*\n|[ \t\r]*\n)+)$/.exec(text.slice(Math.max(0, head - 4000), head));
+  return above && above[1].includes("#") ? head - above[1].length : head;
+}
+
 /** The sections of a text in order: their word, their name and all their lines. What stands before the first goes with it. */
 export function sectionsOf(text) {
   const heads = [...text.matchAll(HEAD)];
   if (heads.length === 0) return [{ word: "", name: null, text }];
-  const before = text.slice(0, heads[0].index);
+  const begins = heads.map((head) => beginOf(text, head.index));
+  const before = text.slice(0, begins[0]);
   const isQuiet = before.split("\n").every((line) => /^\s*(#|$)/.test(line));
   const sections = heads.map((head, i) => ({
     word: head[1],
     name: unquoted(head[2]),
-    text: text.slice(i === 0 && isQuiet ? 0 : head.index, heads[i + 1]?.index ?? text.length),
+    text: text.slice(i === 0 && isQuiet ? 0 : begins[i], begins[i + 1] ?? text.length),
   }));
   return isQuiet ? sections : [{ word: "", name: null, text: before }, ...sections];
 }
@@ -69,13 +76,16 @@ function stripped(line) {
   return line.replace(/[ \t]#.*$/, "").replace(/\s+/g, " ").trim();
 }
 
+/** A vertex of any kind as people write it. */
+const plainly = (line) => line.replace(/^vertex ("(?:[^"]|"")*"|\S+)( inspected \S+)?$/, "$1: any$2");
+
 /** A new text of a pattern, with the comments of the old one on lines that say the same, and what stood above its head. */
 export function keepingComments(fresh, old) {
   const oldLines = old.split("\n");
   const head = oldLines.findIndex((line) => /^[ \t]*\[/.test(line));
   const above = head > 0 ? oldLines.slice(0, head) : [];
   const known = new Map(oldLines.filter((line) => /[ \t]#/.test(line) && !/^[ \t]*\[/.test(line)).map((line) => [stripped(line), line]));
-  const lines = fresh.split("\n").map((line) => known.get(stripped(line)) ?? line);
+  const lines = fresh.split("\n").map(plainly).map((line) => known.get(stripped(line)) ?? line);
   return [...above, ...lines].join("\n");
 }
 

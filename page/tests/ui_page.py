@@ -72,7 +72,8 @@ class Page(Browser):
             except Exception as error:  # an element that is being drawn anew
                 last = error
             time.sleep(0.03)
-        raise AssertionError(f"waited in vain: {what}{f' ({last})' if last else ''}; places say: {self.text('#places-title')!r} {self.text('#places-words')!r}")
+        words = what() if callable(what) else what
+        raise AssertionError(f"waited in vain: {words}{f' ({last})' if last else ''}; places say: {self.text('#places-title')!r} {self.text('#places-words')!r}")
 
     def rows(self):
         """The rows of the list that are in the document, by names."""

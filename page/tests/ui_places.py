@@ -16,7 +16,7 @@ def grid(n, pattern="[query every]\na: motor\nb: truss\na -carries-> b\n"):
     return "[graph]\n" + "\n".join(items + lines) + "\n" + pattern
 
 
-class Places(PageTest):
+class Places:
     def choose_pattern(self, name):
         if self.size == PHONE:
             self.page.tab("pattern")
@@ -78,7 +78,7 @@ class Places(PageTest):
         self.assertIn("No item fits m: of 1 of kind motor none was inspected", self.page.text("#places-words"))
 
 
-class PlacesWide(Places):
+class PlacesWide(Places, PageTest):
     def test_by_keyboard_alone(self):
         self.page.example()
         self.page.until_places(1)
@@ -162,7 +162,7 @@ class PlacesWide(Places):
         self.assertGreater(float(self.view().split("scale(")[1][:-1]), float(before.split("scale(")[1][:-1]))
 
 
-class PlacesOnAPhone(Places):
+class PlacesOnAPhone(Places, PageTest):
     size = PHONE
 
     def test_two_fingers_zoom(self):
@@ -174,8 +174,6 @@ class PlacesOnAPhone(Places):
         self.page.pinch("#rig-drawing", 30, 90)
         self.page.until(lambda: scale() > before * 1.5, "larger")
 
-
-del Places
 
 if __name__ == "__main__":
     unittest.main()
