@@ -27,7 +27,12 @@ const editor = makeEditor({
   onInput: (text) => changed(text, true),
 });
 
-const rolling = makeRolling({ id: "diff-list", label: "Places that are gone, new and kept", height: 44, row: makeRow, onChoose: (i) => markItems(numbers(seen[i].names), drawn) });
+const rolling = makeRolling({ id: "diff-list", label: "Places that are gone, new and kept", height: 44, row: makeRow, onChoose: show });
+
+function show(i) {
+  const { sort, names } = seen[i];
+  markItems(numbers(names), drawn, `${SORTS[sort][1]} place marked · green is added, dotted is taken away`);
+}
 
 function numbers(names) {
   const items = hangRead()?.items ?? [];

@@ -3,6 +3,7 @@
 import { textWidth } from "./dom.js";
 import { kindIndex, sideRoom } from "./kinds.js";
 
+const WORDS = '11px Inter, "DejaVu Sans", system-ui, sans-serif';
 const NAME = '13px Inter, "DejaVu Sans", system-ui, sans-serif';
 
 // Hangs of more items or lines than this are shown in part: a picture of more can't be read on a screen.
@@ -93,18 +94,25 @@ export function layOut(hang, kinds, items, extra) {
   const graph = new globalThis.dagre.graphlib.Graph();
   const lines = linesBetween(hang, items, extra);
   const isCrowded = lines.length > 60;
-  graph.setGraph({ rankdir: "TB", nodesep: 18, ranksep: isCrowded ? 50 : 56, marginx: 10, marginy: 10 });
-  graph.setDefaultEdgeLabel(() => ({}));
+  graph.setGraph({ rankdir: "TB", nodesep: 18, edgesep: 8, ranksep: isCrowded ? 50 : 40, marginx: 10, marginy: 10 });
   for (const item of [...items].sort((a, b) => a - b)) {
     const { name, kind } = hang.items[item];
     const index = kindIndex(kinds, kind);
     const width = Math.max(34, Math.ceil(textWidth(name, NAME)) + 2 * sideRoom(index));
     graph.setNode(String(item), { width, height: 34, index });
   }
-  for (const line of lines) if (line.from !== line.to) graph.setEdge(String(line.from), String(line.to), {});
+  for (const line of lines) {
+    line.words = [...new Set(line.kinds)].map((kind) => (typeof kind === "number" ? kinds.connections[kind] : kind)).join(", ");
+    const room = isCrowded ? {} : { width: Math.ceil(textWidth(line.words, WORDS)), height: 14, labelpos: "c" };
+    if (line.from !== line.to) graph.setEdge(String(line.from), String(line.to), room);
+  }
   globalThis.dagre.layout(graph);
   const boxes = new Map([...items].map((item) => [item, graph.node(String(item))]));
-  for (const line of lines) line.points = line.from === line.to ? loop(boxes.get(line.from)) : graph.edge(String(line.from), String(line.to)).points;
+  for (const line of lines) {
+    const edge = line.from === line.to ? { points: loop(boxes.get(line.from)) } : graph.edge(String(line.from), String(line.to));
+    line.points = edge.points;
+    line.at = edge.x === undefined ? edge.points[Math.floor(edge.points.length / 2)] : { x: edge.x, y: edge.y };
+  }
   const { width = 0, height = 0 } = graph.graph();
   return { boxes, lines, width: Math.max(1, width), height: Math.max(1, height), isCrowded };
 }

@@ -92,6 +92,11 @@ export function isDrawn(model) {
   return Boolean(model) && model.vertices.length >= 2 && model.edges.length >= 1;
 }
 
+/** What is said of a pattern, in the words of the page. */
+export function plainReason(reason) {
+  return reason.startsWith("the query is not connected") ? "the pattern does not hang together: join all its items by connections" : reason;
+}
+
 /** The pattern in words, for those who don't see the drawing. */
 export function patternWords(model) {
   const vertices = model.vertices.map((vertex, v) => `${vertexName(model, v)}, ${vertex.kind ?? "of any kind"}${vertex.days ? `, inspected ${daysWords(vertex.days)}` : ""}`);

@@ -1,9 +1,9 @@
 // A pattern as drawing and as text at once: either is edited, the other follows.
 
-import { byId, h, fill, shown, count, later } from "./dom.js";
+import { byId, h, fill, shown, count } from "./dom.js";
 import { state, on, emit, chosenPattern, kindsOfHang } from "./state.js";
 import { keepingComments, linesAbove, sentenceOf, titleOf } from "./sections.js";
-import { addVertex, connect, emptyPattern, isDrawn, MOST_VERTICES, patternWords, vertexName } from "./model.js";
+import { addVertex, connect, emptyPattern, isDrawn, MOST_VERTICES, patternWords, plainReason, vertexName } from "./model.js";
 import { drawSketch, extentOf, tidySpots } from "./sketch.js";
 import { makeGestures } from "./gestures.js";
 import { drawForm, without } from "./form.js";
@@ -76,7 +76,7 @@ function settleSelection() {
 
 function tellFaults(answer, above) {
   const besides = [answer.pattern?.fault, answer.pattern?.planFault].filter(Boolean);
-  const all = [...(answer.errors ?? []), ...(answer.warnings ?? []), ...besides].map((fault) => ({ ...fault, line: fault.line + above }));
+  const all = [...(answer.errors ?? []), ...(answer.warnings ?? []), ...besides].map((fault) => ({ ...fault, line: fault.line + above, reason: plainReason(fault.reason) }));
   // A drawing that has only begun is no fault.
   faults = isDrawn(state.pattern) ? all : all.filter((fault) => !fault.reason.startsWith("too few"));
   editor.setFaults(faults);
@@ -354,7 +354,7 @@ export function startPattern() {
   byId("pattern-choice").addEventListener("change", (event) => choosePattern(Number(event.target.value)));
   byId("new-pattern").addEventListener("click", newPattern);
   byId("whole-pattern").addEventListener("click", () => told.select(selected?.pattern ? null : { pattern: true }));
-  new ResizeObserver(later(frame, 30)).observe(svg);
+  new ResizeObserver(frame).observe(svg);
   on("ask-once", () => askOnce(true));
   on("ask-pattern", choosePattern);
   on("reading", () => readText().then(frame));

@@ -12,6 +12,7 @@ let laid = null; // the layout that is shown, and of what it is
 let place = []; // the items of the marked place
 let tinted = new Set();
 let extra = []; // changes that are drawn besides
+let besides = ""; // what is said of them
 
 const D = (points) => `M${points.map(({ x, y }) => `${x.toFixed(1)} ${y.toFixed(1)}`).join(" L")}`;
 
@@ -24,12 +25,10 @@ function markedLines() {
   return marks;
 }
 
-function drawLine(line, marks, kinds) {
+function drawLine(line, marks) {
   const isMarked = marks.has(`${line.from} ${line.to}`);
-  const words = [...new Set(line.kinds)].map((kind) => (typeof kind === "number" ? kinds.connections[kind] : kind)).join(", ");
-  const middle = line.points[Math.floor(line.points.length / 2)];
   const change = line.changes.every((each) => each === "added") ? "added" : line.changes.every((each) => each === "taken") ? "taken" : "";
-  const label = !laid.isCrowded || isMarked ? s("text", { class: "line-words", x: middle.x, y: middle.y + 4 }, words) : null;
+  const label = !laid.isCrowded || isMarked ? s("text", { x: line.at.x, y: line.at.y + 4 }, line.words) : null;
   return s("g", { class: `line ${isMarked ? "marked" : ""} ${change}` }, s("path", { d: D(line.points), "marker-end": isMarked ? "url(#tip-mark)" : "url(#tip)" }), label);
 }
 
@@ -68,6 +67,7 @@ export function drawPicture({ isFresh = false } = {}) {
   const hang = hangRead();
   const group = byId("rig-content");
   shown(byId("rig-empty"), !hang);
+  byId("rig-empty").textContent = state.hang.length ? "The picture comes when the hang has no faults." : "Open a text or two tables, or look at an example.";
   shown(byId("rig-tools"), Boolean(hang));
   if (!hang || hang.items.length === 0) {
     laid = null;
@@ -81,7 +81,7 @@ export function drawPicture({ isFresh = false } = {}) {
   if (!isSame) laid = { ...layOut(hang, kinds, drawn.items, extra), hang, extra, isAll: drawn.isAll };
   const marks = markedLines();
   const lines = [...laid.lines].sort((a, b) => marks.has(`${a.from} ${a.to}`) - marks.has(`${b.from} ${b.to}`));
-  fill(group, lines.map((line) => drawLine(line, marks, kinds)), [...laid.boxes].map(([item, box]) => drawItem(hang, item, box)));
+  fill(group, lines.map((line) => drawLine(line, marks)), [...laid.boxes].map(([item, box]) => drawItem(hang, item, box)));
   group.classList.toggle("has-mark", place.length > 0);
   frame(isSame);
   describe(hang);
@@ -90,7 +90,8 @@ export function drawPicture({ isFresh = false } = {}) {
 function describe(hang) {
   const n = state.found?.list?.n ?? 0;
   const words = [];
-  if (place.length && state.place >= 0) words.push(`place ${(state.place + 1).toLocaleString("en")} of ${n.toLocaleString("en")} marked`);
+  if (besides) words.push(besides);
+  else if (place.length && state.place >= 0) words.push(`place ${(state.place + 1).toLocaleString("en")} of ${n.toLocaleString("en")} marked`);
   if (!laid.isAll) words.push(`${laid.boxes.size} of ${count(hang.items.length, "item")}, around ${place.length ? "the place" : "the first"}`);
   byId("rig-small").textContent = words.join(" · ");
   const names = place.map((item) => hang.items[item].name).join(", ");
@@ -98,15 +99,15 @@ function describe(hang) {
 }
 
 /** Marks items that are no place of the list, and draws changes besides. */
-export function markItems(items, changes = []) {
-  place = items;
-  extra = changes;
+export function markItems(items, changes, words) {
+  [place, extra, besides] = [items, changes, words];
   drawPicture();
 }
 
 function placeChanged() {
   place = state.place >= 0 && state.found?.list ? itemsOf(state.place) : [];
   extra = extra.length ? [] : extra;
+  besides = "";
   drawPicture();
 }
 

@@ -3,7 +3,7 @@
 import { byId, h, fill, shown, count, duration, sentence, later, textWidth } from "./dom.js";
 import { state, on, emit, chosenPattern, hangRead } from "./state.js";
 import { kindClass, kindIndex } from "./kinds.js";
-import { isDrawn } from "./model.js";
+import { isDrawn, plainReason } from "./model.js";
 import { makeRolling } from "./rolling.js";
 import { find, findLane, PATTERN_FILE } from "./runs.js";
 
@@ -174,12 +174,13 @@ function draw() {
     return tell("Looking for places", "The list comes when it is whole.");
   }
   if (state.hang.length === 0) return tell("Places", "Open a text or two tables, or look at an example.");
+  if (state.reading?.errorCount && !chosenPattern()) return tell("No list", faultWords(state.reading.errors), { isBad: true });
   if (!chosenPattern()) return tell("Places", "Draw a pattern: what to look for in the hang.");
   if (!found) return tell("Places", "");
   if (found.cancelled) return tell("No list", `Cancelled after ${duration(found.ms)}. There is no list.`, { isBad: true, action: again() });
   if (found.errors && !isDrawn(state.pattern) && hangRead()) return tell("Places", "A pattern has two items at least, and a connection between them.");
   if (found.errors) return tell("No list", faultWords(found.errors), { isBad: true });
-  if (found.failed) return tell("No list", sentence(found.failed), { isBad: true, action: again() });
+  if (found.failed) return tell("No list", sentence(plainReason(found.failed)), { isBad: true, action: found.fault ? null : again() });
   current = found;
   shown(byId("places-words"), false);
   shown(byId("places-list"), true);
@@ -216,7 +217,7 @@ export function startPlaces() {
   on("brought patterns", () => {
     if (!state.found) draw();
   });
-  on("reading", () => list() && show());
+  on("reading", () => (list() ? show() : !state.found && draw()));
   on("place", () => {
     if (!list()) return;
     const at = order ? order.indexOf(state.place) : state.place;

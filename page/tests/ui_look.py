@@ -41,7 +41,7 @@ class Look:
         for part in PARTS:
             self.page.tab(part)
             if part == "pattern":
-                self.page.drag([tuple(self.page.look("const b = document.querySelector('[data-vertex=\\"0\\"] .shape').getBoundingClientRect(); return [Math.round(b.x + 20), Math.round(b.y + 20)]"))])
+                self.page.tap("[data-vertex='0'] .shape")
                 self.page.until(lambda: self.page.is_seen("#pattern-form [data-key=remove]"), "the form")
             if part == "work":
                 self.page.until(lambda: self.page.all("#work .records"), "the records")
