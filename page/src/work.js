@@ -33,7 +33,7 @@ function records(answer) {
   const [rows, cost] = [most((record) => record.rows), most((record) => record.cost)];
   const thought = (value) => (value === null || value === undefined ? "" : value < 10 && value % 1 ? value.toFixed(1) : Math.round(value).toLocaleString("en"));
   const line = (record) => h("tr", {}, h("th", { scope: "row" }, record.operator), h("td", { class: "number" }, thought(record.estimated)), bar(record.rows, rows, "rows"), bar(record.cost, cost, "cost"));
-  const head = ["Step", "Thought", "Rows", "Lookups"].map((text) => h("th", { scope: "col" }, text));
+  const head = ["Step", "Estimate", "Rows", "Lookups"].map((text) => h("th", { scope: "col" }, text));
   return h("div", { class: "wide" }, h("table", { class: "records" }, h("thead", {}, h("tr", {}, head)), h("tbody", {}, answer.records.map(line))));
 }
 
