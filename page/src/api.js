@@ -1,5 +1,7 @@
 // window.rizhavaan: the engine for scripts, with the answers of the program.
 
+import { quote } from "./words.js";
+
 /** An error with a sentence, and the faults of the text where it has some. */
 function failed(words, errors = []) {
     const error = new Error(words);
@@ -48,5 +50,5 @@ async function find(engine, text, { plan = "best", once = false, patterns = null
 }
 
 export function publish(engine) {
-    window.rizhavaan = Object.freeze({ find: (text, options) => find(engine, text, options), engine });
+    window.rizhavaan = Object.freeze({ find: (text, options) => find(engine, text, options), engine, quote });
 }

@@ -45,12 +45,12 @@ function answer({ id, call, args, sources }) {
 
 /** Why the module stopped in the middle of a call, in words. */
 function why(error) {
-    if (error instanceof RangeError || (engine && engine.memory_ended())) {
+    const panic = engine ? text(engine.panic_pointer(), engine.panic_length()) : "";
+    if (error instanceof RangeError || engine?.memory_ended() || panic.includes("capacity overflow")) {
         const size = engine ? Math.round(engine.memory.buffer.byteLength / 1e6) : 0;
         return `memory ended: ${size} MB were in use and the browser gives no more, so there is no list. ` +
             "Ask for less: name kinds or days, or take mirror images once";
     }
-    const panic = engine ? text(engine.panic_pointer(), engine.panic_length()) : "";
     return `the page failed, so there is no list: ${panic || error.message}`;
 }
 

@@ -39,15 +39,15 @@ def program(*words, text=None, check=True):
 
 
 class Browser:
-    """A browser window with the page. With touch, pointers are fingers."""
+    """A browser window with the page. With touch, pointers are fingers; `words` are further ones of Chromium's command line."""
 
-    def __init__(self, width=1280, height=800, touch=False, dark=False, profile=None, page=PAGE):
+    def __init__(self, width=1280, height=800, touch=False, dark=False, profile=None, page=PAGE, words=()):
         self.page = page
         self.folder = tempfile.mkdtemp(prefix="page-", dir=os.environ.get("TMPDIR"))
         self.net_log = pathlib.Path(self.folder) / "net.json"
         options = Options()
         options.binary_location = "/usr/bin/chromium"
-        for word in [*QUIET, f"--window-size={width},{height}", f"--log-net-log={self.net_log}"]:
+        for word in [*QUIET, *words, f"--window-size={width},{height}", f"--log-net-log={self.net_log}"]:
             options.add_argument(word)
         options.add_argument(f"--user-data-dir={profile or self.folder + '/profile'}")
         options.add_experimental_option("prefs", {"download.default_directory": self.folder + "/saved"})

@@ -63,8 +63,9 @@ fn words(failure: &Failure) -> String {
     }
 }
 
-/// Bytes that a run may take where nothing is said: the module has 4 GB in all.
+/// Bytes that a run may take where nothing is said, and the most: a buffer has at most half of the module's 4 GB.
 const MEMORY: usize = 2_000_000_000;
+const MOST_MEMORY: u64 = i32::MAX as u64;
 
 impl Call<'_> {
     pub fn flag(&self, name: &str) -> bool {
@@ -79,7 +80,7 @@ impl Call<'_> {
             Some("drawn") => Choice::Drawn,
             Some(other) => return Err(No::because(format!("there is no plan '{other}'"))),
         };
-        let memory = self.args["memory"].as_u64().map_or(MEMORY, |bytes| bytes.min(usize::MAX as u64) as usize);
+        let memory = self.args["memory"].as_u64().map_or(MEMORY, |bytes| bytes.min(MOST_MEMORY) as usize);
         Ok(Options { plan, once: self.flag("once"), memory, count_only })
     }
 

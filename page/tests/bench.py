@@ -1,0 +1,201 @@
+"""How fast the page is; page/bench runs it."""
+
+import base64
+import ctypes
+import json
+import pathlib
+import random
+import re
+import sys
+import tempfile
+import time
+
+from harness import PAGE, ROOT, Browser, program
+
+ROUNDS = 15
+ENGINE_BOUND = 1.3
+FIRST_LIST_MS = 1_000
+LARGE_MS = 2_000
+MAX_OPERATORS = 31
+
+
+def triangle():
+    """A triangle over 65,535 items and 300,000 connections."""
+    numbers = random.Random(1)
+    edges = set()
+    while len(edges) < 300_000:
+        a, b = int(65_535 * numbers.random() ** 2), int(65_535 * numbers.random() ** 2)
+        edges.add((a, b))
+    lines = ["[graph]", "vertices 65535", *(f"{a} -1-> {b}" for a, b in sorted(edges))]
+    return "\n".join([*lines, "[query]", "vertices 3", "0 -1-> 1", "0 -1-> 2", "1 -1-> 2", ""])
+
+
+def rig():
+    """65,000 items: trusses of braced bays, with a motor and a lamp below every bay."""
+    lines = ["[kinds]", "item top", "item bottom", "item motor", "item lamp"]
+    lines += [f"connection {kind}" for kind in ("chord", "post", "brace", "hangs", "clamp", "cable")] + ["[graph]"]
+    bays, trusses, edges = 50, 325, []
+    numbers = random.Random(2)
+    for t in range(trusses):
+        for b in range(bays):
+            for kind in ("top", "bottom", "motor", "lamp"):
+                lines.append(f"{kind}-{t}-{b}: {kind} day 2026-0{1 + (t + b) % 9}-15")
+            if b + 1 < bays:
+                edges += [f"top-{t}-{b} -chord-> top-{t}-{b + 1}", f"bottom-{t}-{b} -chord-> bottom-{t}-{b + 1}"]
+                edges.append(f"top-{t}-{b} -brace-> bottom-{t}-{b + 1}")
+            edges += [f"top-{t}-{b} -post-> bottom-{t}-{b}", f"bottom-{t}-{b} -hangs-> motor-{t}-{b}", f"motor-{t}-{b} -clamp-> lamp-{t}-{b}"]
+            edges.append(f"lamp-{t}-{b} -cable-> lamp-{t}-{numbers.randrange(bays)}")
+    pattern = ["[query bay] # A motor below a braced bay.", "a: top", "b: top", "c: bottom", "d: bottom", "motor: motor"]
+    pattern += ["a -chord-> b", "c -chord-> d", "a -post-> c", "b -post-> d", "a -brace-> d", "d -hangs-> motor"]
+    return "\n".join([*lines, *dict.fromkeys(edges), *pattern, ""])
+
+
+def packed(text):
+    """The packed graph and query of a text."""
+    with tempfile.TemporaryDirectory() as folder:
+        path = pathlib.Path(folder) / "hang.txt"
+        path.write_text(text)
+        program("pack", path, folder)
+        return [(pathlib.Path(folder) / name).read_bytes() for name in ("g.bin", "q.bin")]
+
+
+class Native:
+    """The native library over a hang that it loaded."""
+
+    def __init__(self, graph, query):
+        self.library = ctypes.CDLL(str(ROOT / "target/page/librizhavaan.so"))
+        self.graph, self.query = graph, query
+        head = int.from_bytes(graph[:5], "big") >> 4
+        self.words = 4 * (head >> 20) + 2 * (head & 0xFFFFF) + 4
+        self.store = (ctypes.c_uint32 * self.words)()
+        self.plan = (ctypes.c_uint8 * 6)()
+        self.records = (ctypes.c_uint64 * (2 * MAX_OPERATORS))()
+        self.number = (ctypes.c_uint64 * 4)()
+
+    def load(self):
+        out = [ctypes.byref(self.number, 8 * i) for i in range(2)]
+        return self.library.rizhavaan_load(self.graph, size(self.graph), self.store, size(self.store), *out)
+
+    def draw(self):
+        out = ctypes.byref(self.number)
+        status = self.library.rizhavaan_draw_plan(self.store, size(self.store), self.query, size(self.query), self.plan, size(self.plan), out)
+        assert status == 0, status
+        self.plan_bytes = bytes(self.plan[: self.number[0]])
+
+    def run(self):
+        out = [ctypes.byref(self.number, 8 * i) for i in range(4)]
+        return self.library.rizhavaan_run(
+            self.store, size(self.store), self.query, size(self.query), self.plan_bytes, size(self.plan_bytes), ctypes.c_bool(True),
+            self.scratch, size(self.scratch), self.list, size(self.list), self.records, ctypes.c_size_t(MAX_OPERATORS), *out)
+
+    def prepare(self):
+        """Loads, draws, and grows scratch and list until a run fits; answers their words, and the rows."""
+        assert self.load() == 0
+        self.draw()
+        words = {20: 1 << 16, 21: 1 << 16}
+        while True:
+            self.scratch = (ctypes.c_uint32 * words[20])()
+            self.list = (ctypes.c_uint32 * words[21])()
+            status = self.run()
+            if status == 0:
+                return words[20], words[21], self.number[0]
+            words[status] *= 2
+
+
+def size(buffer):
+    return ctypes.c_size_t(len(buffer))
+
+
+# The engine in the module of the page, in memory of its own behind the module's.
+IN_BROWSER = """
+    const [module, graph, query, plan, storeWords, scratchWords, listWords, rounds, operators] = args;
+    const bytes = (text) => Uint8Array.from(atob(text), (c) => c.charCodeAt(0));
+    if (!window.benched) window.benched = {};
+    const key = graph.length;
+    if (!window.benched[key]) {
+        const { exports } = (await WebAssembly.instantiate(bytes(module))).instance;
+        const parts = { graph: bytes(graph), query: bytes(query), plan: bytes(plan) };
+        const words = { store: storeWords, scratch: scratchWords, list: listWords, records: 4 * operators, numbers: 8 };
+        const sizes = [...Object.entries(parts).map(([name, part]) => [name, part.length]), ...Object.entries(words).map(([name, n]) => [name, 4 * n])];
+        const total = sizes.reduce((sum, [, n]) => sum + n + 64, 0);
+        let next = exports.memory.grow(Math.ceil(total / 65536)) * 65536;
+        const at = {};
+        for (const [name, n] of sizes) { at[name] = next; next = (next + n + 63) & ~63; }
+        for (const [name, part] of Object.entries(parts)) new Uint8Array(exports.memory.buffer).set(part, at[name]);
+        window.benched[key] = { exports, parts, at };
+    }
+    const { exports, parts, at } = window.benched[key];
+    const big = BigInt, n = (i) => at.numbers + 8 * i;
+    const load = () => exports.rizhavaan_load(at.graph, big(parts.graph.length), at.store, big(storeWords), n(0), n(1));
+    const run = () => exports.rizhavaan_run(at.store, big(storeWords), at.query, big(parts.query.length), at.plan, big(parts.plan.length), 1,
+        at.scratch, big(scratchWords), at.list, big(listWords), at.records, big(operators), n(0), n(1), n(2), n(3));
+    const timed = (what) => {
+        const begun = performance.now();
+        for (let i = 0; i < rounds; i += 1) if (what() !== 0) throw new Error("refused");
+        return (performance.now() - begun) / rounds;
+    };
+    const times = { load: timed(load), run: timed(run) };
+    return { ...times, rows: Number(new BigUint64Array(exports.memory.buffer, at.numbers, 1)[0]) };"""
+
+
+def engine(browser, module, name, text):
+    """The times of Load and Run in the browser and by the library, the least of several rounds in turn."""
+    graph, query = packed(text)
+    native = Native(graph, query)
+    scratch, listed, rows = native.prepare()
+    coded = [base64.b64encode(part).decode() for part in (graph, query, native.plan_bytes)]
+    best = {"load": [1e9, 1e9], "run": [1e9, 1e9]}
+    for _ in range(ROUNDS):
+        told = browser.js(IN_BROWSER, module, *coded, native.words, scratch, listed, 2, MAX_OPERATORS)
+        assert told["rows"] == rows, (told, rows)
+        for what, call in (("load", native.load), ("run", native.run)):
+            begun = time.perf_counter()
+            for _ in range(2):
+                assert call() == 0
+            best[what][0] = min(best[what][0], (time.perf_counter() - begun) * 500)
+            best[what][1] = min(best[what][1], told[what])
+    for what, (by_library, in_browser) in best.items():
+        ratio = in_browser / by_library
+        yield f"{name}, {what}, {rows} rows", f"{by_library:.2f} ms", f"{in_browser:.2f} ms", f"{ratio:.2f}", what == "load" or ratio <= ENGINE_BOUND
+
+
+def whole(text):
+    """From opening a new browser to the example's list, and a large rig from its text to its list."""
+    browser = Browser()
+    browser.open()
+    first = browser.js(
+        """const [example] = await rizhavaan.engine.call("examples");
+           const found = await rizhavaan.find(example.text, { patterns: ["two-lapsed"] });
+           if (found.places !== 1) throw new Error("no list");
+           return performance.now();""")
+    yield "opened, to the example's list", "", f"{first:.0f} ms", "", first <= FIRST_LIST_MS
+    told = browser.js(
+        """const sources = [{ name: "rig.txt", text: args[0] }];
+           const begun = performance.now();
+           const read = await rizhavaan.engine.call("read", { sources });
+           const half = performance.now();
+           const found = (await rizhavaan.engine.call("find", { sources })).patterns[0];
+           return { read: half - begun, find: performance.now() - half, items: read.hang.items.length, places: found.places };""",
+        text)
+    total = told["read"] + told["find"]
+    label = f"{told['items']} items: read {told['read']:.0f} ms, found {told['find']:.0f} ms, {told['places']} places"
+    yield label, "", f"{total:.0f} ms", "", total <= LARGE_MS
+    browser.close()
+
+
+def main():
+    [module] = re.findall(r'const wasm = "([^"]*)"', PAGE.read_text())
+    large = rig()
+    browser = Browser()
+    browser.open()
+    lines = [*engine(browser, module, "triangle of 300,000 edges", triangle()), *engine(browser, module, "rig of 65,000 items", large)]
+    browser.close()
+    lines += whole(large)
+    print("| what | library | browser | ratio | kept |\n|---|---|---|---|---|")
+    for *cells, kept in lines:
+        print("| " + " | ".join([*cells, "yes" if kept else "NO"]) + " |")
+    return 0 if all(line[-1] for line in lines) else 1
+
+
+if __name__ == "__main__":
+    sys.exit(main())
