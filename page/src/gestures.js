@@ -5,8 +5,8 @@ import { s } from "./dom.js";
 // A pointer that went less far has tapped.
 const TAP = 9;
 
-/** `told` has the calls: add(point), select(what), connect(from, to), connectNew(from, point), move(v, point), moveBy(v, dx, dy), remove(what). `isMoving()` tells
-    whether a drag moves an item instead of joining it to another. */
+/** `told` has the calls: add(point), select(what), connect(from, to), connectNew(from, point), connecting(v), move(v, point, isLast),
+    moveBy(v, dx, dy), pan(dx, dy), remove(what). `isMoving()` tells whether a drag moves an item instead of joining it to another. */
 export function makeGestures(svg, group, told, isMoving) {
   let drag = null;
   let connecting = null;
@@ -41,6 +41,10 @@ export function makeGestures(svg, group, told, isMoving) {
     if (!drag || event.pointerId !== drag.id) return;
     if (Math.hypot(event.clientX - drag.x, event.clientY - drag.y) > TAP) drag.isFar = true;
     const from = drag.what?.vertex;
+    if (drag.isFar && !drag.what) {
+      told.pan(event.clientX - (drag.lastX ?? drag.x), event.clientY - (drag.lastY ?? drag.y));
+      [drag.lastX, drag.lastY] = [event.clientX, event.clientY];
+    }
     if (!drag.isFar || from === undefined) return;
     const point = inside(event);
     if (isMoving()) {

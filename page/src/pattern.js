@@ -138,7 +138,7 @@ function draw({ keepsForm = false } = {}) {
 /** Shows the drawing as large as there is room, where it is not seen whole. */
 function frame() {
   if (!state.pattern?.vertices.length) return;
-  zoom.show(extentOf(state.pattern, kindsOfHang(), spots), { most: 1 });
+  zoom.show(extentOf(state.pattern, kindsOfHang(), spots), { most: 1, least: 0.65 });
 }
 
 /** Text was typed. */
@@ -278,6 +278,7 @@ const told = {
     if (isLast) keepSpots();
     drawDrawing();
   },
+  pan: (dx, dy) => zoom.moveBy(dx, dy),
   moveBy(v, dx, dy) {
     told.move(v, { x: spots[v].x + dx, y: spots[v].y + dy }, true);
   },

@@ -159,6 +159,12 @@ function tell(title, words, { isBad = false, action = null } = {}) {
   for (const id of ["places-list", "places-hint", "places-all", "places-tools"]) shown(byId(id), false);
 }
 
+/** The text's own plan is refused: another lists the same places. */
+const otherPlan = () => h("button", { type: "button", onclick: () => {
+  state.plan = "picked";
+  emit("options");
+} }, "Use a picked plan");
+
 const again = () => h("button", { type: "button", onclick: find }, "Run again");
 
 function draw() {
@@ -180,7 +186,7 @@ function draw() {
   if (found.cancelled) return tell("No list", `Cancelled after ${duration(found.ms)}. There is no list.`, { isBad: true, action: again() });
   if (found.errors && !isDrawn(state.pattern) && hangRead()) return tell("Places", "A pattern has two items at least, and a connection between them.");
   if (found.errors) return tell("No list", faultWords(found.errors), { isBad: true });
-  if (found.failed) return tell("No list", sentence(plainReason(found.failed)), { isBad: true, action: found.fault ? null : again() });
+  if (found.failed) return tell("No list", sentence(plainReason(found.failed)), { isBad: true, action: state.pattern?.planFault ? otherPlan() : found.fault ? null : again() });
   current = found;
   shown(byId("places-words"), false);
   shown(byId("places-list"), true);
@@ -214,6 +220,7 @@ export function startPlaces() {
   byId("filter").addEventListener("input", later(() => list() && show(), 60));
   rolling.node.addEventListener("scroll", () => (byId("columns").style.transform = `translateX(${-rolling.node.scrollLeft}px)`));
   on("found", draw);
+  on("sketched", () => !list() && state.found && !state.found.running && draw());
   on("brought patterns", () => {
     if (!state.found) draw();
   });

@@ -14,19 +14,21 @@ function labels(vertex) {
   return [kind === vertex.name ? "" : kind, daysWords(vertex.days)].filter(Boolean);
 }
 
-/** Where they stand: above, or below or beside where connections arrive. */
+/** Where they stand: above, or below or at a side where connections arrive. */
 function labelSide(model, spots, v) {
   const others = model.edges.flatMap(({ from, to }) => (from === v ? [to] : to === v ? [from] : []));
   const isAbove = others.some((other) => spots[other].y < spots[v].y - HEIGHT / 2);
   const isBelow = others.some((other) => spots[other].y > spots[v].y + HEIGHT / 2);
-  return !isAbove ? "above" : !isBelow ? "below" : "beside";
+  if (!isAbove || !isBelow) return isAbove ? "below" : "above";
+  const near = (sign) => spots.some((spot) => Math.abs(spot.y - spots[v].y) < HEIGHT && sign * (spot.x - spots[v].x) > 0 && Math.abs(spot.x - spots[v].x) < 220);
+  return near(1) && !near(-1) ? "left" : "right";
 }
 
 /** The lines of a label around the origin of its vertex. */
-function drawLabels(side, above, width) {
-  const top = { above: -HEIGHT / 2 - 8 - 16 * (above.length - 1), below: HEIGHT / 2 + 16, beside: 4 - 8 * (above.length - 1) }[side];
-  const place = side === "beside" ? { x: width / 2 + 8, class: "small aside" } : { x: 0, class: "small" };
-  return above.map((text, i) => s("text", { ...place, y: top + 16 * i }, text));
+function drawLabels(side, lines, width) {
+  const top = { above: -HEIGHT / 2 - 8 - 16 * (lines.length - 1), below: HEIGHT / 2 + 16 }[side] ?? 4 - 8 * (lines.length - 1);
+  const x = { left: -width / 2 - 8, right: width / 2 + 8 }[side] ?? 0;
+  return lines.map((text, i) => s("text", { class: `small ${side}`, x, y: top + 16 * i }, text));
 }
 
 export function boxOf(model, kinds, v) {
@@ -38,7 +40,7 @@ export function boxOf(model, kinds, v) {
 /** Places for all vertices, what carries above what it carries. */
 export function tidySpots(model, kinds) {
   const graph = new globalThis.dagre.graphlib.Graph();
-  graph.setGraph({ rankdir: "TB", nodesep: 52, ranksep: 54 });
+  graph.setGraph({ rankdir: "TB", nodesep: 52, ranksep: 44 });
   graph.setDefaultEdgeLabel(() => ({}));
   model.vertices.forEach((vertex, v) => {
     const above = labels(vertex);
@@ -61,9 +63,10 @@ export function extentOf(model, kinds, spots) {
     const lines = labels(model.vertices[v]);
     const side = labelSide(model, spots, v);
     const long = Math.max(0, ...lines.map((text) => textWidth(text, SMALL)));
-    const wide = side === "beside" ? width : Math.max(width, long);
+    const wide = side === "left" || side === "right" ? width : Math.max(width, long);
     const [above, below] = ["above", "below"].map((each) => (side === each ? 17 * lines.length : 0));
-    return [spot.x - wide / 2, spot.y - HEIGHT / 2 - above, spot.x + wide / 2 + (side === "beside" ? long + 10 : 0), spot.y + HEIGHT / 2 + below];
+    const [left, right] = ["left", "right"].map((each) => (side === each ? long + 10 : 0));
+    return [spot.x - wide / 2 - left, spot.y - HEIGHT / 2 - above, spot.x + wide / 2 + right, spot.y + HEIGHT / 2 + below];
   });
   const [x, y] = [0, 1].map((i) => Math.min(...boxes.map((box) => box[i])));
   const [right, bottom] = [2, 3].map((i) => Math.max(...boxes.map((box) => box[i])));

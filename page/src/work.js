@@ -84,6 +84,7 @@ export function startWork() {
     isStale = true;
     soon();
   });
+  on("options", () => (select.value = state.plan));
   on("brought", () => {
     state.work = null;
     select.value = state.plan;

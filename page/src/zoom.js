@@ -62,7 +62,7 @@ export function makeZoom(svg, group, { isStill = false } = {}) {
     moveTo({ scale, x: w / 2 - (x + width / 2) * scale, y: h / 2 - (y + height / 2) * scale }, isSmooth);
   }
 
-  if (isStill) return { show, view };
+  if (isStill) return { show, moveBy, view };
 
   const local = (event) => {
     const box = svg.getBoundingClientRect();

@@ -115,6 +115,21 @@ class PlacesWide(Places, PageTest):
         self.assertIn("of 640 items, around the place", self.page.text("#rig-small"))
         self.assertLessEqual(len(self.page.all("#rig-content .item")), 60)
 
+    def test_a_list_longer_than_a_document_can_be_high(self):
+        n = 480
+        self.page.open()
+        self.page.bring(self.page.temporary("longer.txt", grid(n)))
+        self.page.until_places(n * n)
+        self.page.node("#list").click()
+        self.page.keys(Keys.END)
+        self.page.until(lambda: self.page.rows()[-1] == [f"m{n - 1}", f"t{n - 1}"], "the last row")
+        self.page.keys(Keys.ARROW_UP)
+        self.page.until(lambda: self.page.text("#step-words") == f"{n * n - 1:,} of {n * n:,}", "the one before")
+        self.page.look("const list = document.getElementById('list'); list.scrollTop = (list.scrollHeight - list.clientHeight) / 2")
+        self.page.until(lambda: self.page.rows()[0][0] in ("m239", "m240"), "the middle")
+        self.page.keys(Keys.HOME)
+        self.page.until(lambda: self.page.rows()[0] == ["m0", "t0"], "the first row")
+
     def test_cancelled(self):
         heavy = grid(150, "[query heavy]\n" + "".join(f"a{i}: motor\n" for i in range(4)) + "b: truss\nc: truss\n" + "".join(f"a{i} -carries-> b\na{i} -carries-> c\n" for i in range(4)))
         self.page.open()

@@ -40,6 +40,14 @@ class Work:
 
 
 class WorkWide(Work, PageTest):
+    def test_a_plan_that_is_refused(self):
+        self.page.example("refused-join")
+        self.page.until(lambda: self.page.text("#places-title") == "No list", "no list")
+        self.assertIn("lies within neither result", self.page.text("#places-words"))
+        self.page.tap("#places-words button")
+        self.page.until_places(1)
+        self.assertEqual(self.page.value("#plan"), "picked")
+
     def test_by_keyboard_alone(self):
         self.page.example()
         self.page.until_places(1)
