@@ -13,6 +13,12 @@ export function ask(name, args) {
   return texts.call(name, args, {});
 }
 
+/** A call that may be long, with a way to cancel it. */
+export function longCall(name, args, onTime) {
+  const control = new AbortController();
+  return { answer: runs.call(name, args, { signal: control.signal, onTime }), cancel: () => control.abort() };
+}
+
 export const PATTERN_FILE = "pattern";
 export const CHANGES_FILE = "changes";
 
