@@ -168,6 +168,7 @@ class TakeWide(Take, PageTest):
     def test_a_damaged_address_is_passed_over(self):
         self.page.open("#all=AAAA")
         self.page.until(lambda: self.page.is_seen("#hang-empty"), "nothing is taken in")
+        self.assertEqual(self.page.text("#say"), "The address is damaged: nothing was taken from it.")
 
 
 class TakeOnAPhone(Take, PageTest):
