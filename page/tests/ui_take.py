@@ -116,12 +116,13 @@ class TakeWide(Take, PageTest):
         self.page.open()
         self.page.bring(self.page.temporary("paper.txt", text + "[query every]\na: motor\nb: truss\na -carries-> b\n"))
         self.page.until_places(n * n)
-        self.page.look("window.print = () => { window.asked = true }")
-        self.page.tap("#print")
-        self.page.until(lambda: self.page.look("return window.asked"), "the sheets")
-        self.assertEqual(len(self.page.all("#sheets .page:not(.key)")), 3)
         for paper in [(8.27, 11.69), (8.5, 11), (11.69, 16.54)]:
-            self.assertEqual(self.printed_pages(*paper), 4, "three sheets and a key, a paper each, whatever its size")
+            self.page.look("window.asked = false; window.print = () => { window.asked = true }")
+            self.page.tap("#print")
+            self.page.until(lambda: self.page.look("return window.asked"), "the sheets")
+            self.assertEqual(len(self.page.all("#sheets .page:not(.key)")), 3)
+            self.assertEqual(self.printed_pages(*paper), 4, f"three sheets and a key, a paper each, of {paper}")
+            self.page.until(lambda: not self.page.all("#sheets .page"), "printed, they are gone")
 
     def test_without_the_sheets(self):
         self.start("over-people", 8)
