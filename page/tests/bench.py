@@ -31,22 +31,39 @@ def triangle():
 
 
 def rig():
-    """65,000 items: trusses of braced bays, with a motor and a lamp below every bay."""
-    lines = ["[kinds]", "item top", "item bottom", "item motor", "item lamp"]
-    lines += [f"connection {kind}" for kind in ("chord", "post", "brace", "hangs", "clamp", "cable")] + ["[graph]"]
-    bays, trusses, edges = 50, 325, []
+    """65,000 items: trusses of braced bays, with motors on chains below every third bottom joint, and cables of many kinds."""
     numbers = random.Random(2)
-    for t in range(trusses):
-        for b in range(bays):
-            for kind in ("top", "bottom", "motor", "lamp"):
-                lines.append(f"{kind}-{t}-{b}: {kind} day 2026-0{1 + (t + b) % 9}-15")
-            if b + 1 < bays:
-                edges += [f"top-{t}-{b} -chord-> top-{t}-{b + 1}", f"bottom-{t}-{b} -chord-> bottom-{t}-{b + 1}"]
-                edges.append(f"top-{t}-{b} -brace-> bottom-{t}-{b + 1}")
-            edges += [f"top-{t}-{b} -post-> bottom-{t}-{b}", f"bottom-{t}-{b} -hangs-> motor-{t}-{b}", f"motor-{t}-{b} -clamp-> lamp-{t}-{b}"]
-            edges.append(f"lamp-{t}-{b} -cable-> lamp-{t}-{numbers.randrange(bays)}")
-    pattern = ["[query bay] # A motor below a braced bay.", "a: top", "b: top", "c: bottom", "d: bottom", "motor: motor"]
-    pattern += ["a -chord-> b", "c -chord-> d", "a -post-> c", "b -post-> d", "a -brace-> d", "d -hangs-> motor"]
+    kinds = ("top", "bottom", "motor", "link")
+    cables = [f"cable {number}" for number in range(1, 34)]
+    items, edges = [], []
+
+    def item(kind):
+        items.append(f"{kind}-{len(items):05}")
+        return items[-1]
+
+    while len(items) < 64_950:
+        before = None
+        for bay in range(numbers.randrange(8, 24)):
+            top, bottom = item("top"), item("bottom")
+            edges.append(f"{top} -post-> {bottom}")
+            if before:
+                edges += [f"{before[0]} -chord-> {top}", f"{before[1]} -chord-> {bottom}", f"{before[0]} -brace-> {bottom}"]
+            before = top, bottom
+            if bay % 3 == 0:
+                above = item("motor")
+                edges.append(f"{bottom} -hangs-> {above}")
+                for _ in range(numbers.randrange(2, 8)):
+                    below = item("link")
+                    edges.append(f"{above} -link-> {below}")
+                    above = below
+    for _ in range(len(items) // 2):
+        a = numbers.randrange(len(items) - 61)
+        edges.append(f'{items[a]} -"{numbers.choice(cables)}"-> {items[a + numbers.randrange(1, 61)]}')
+    lines = ["[kinds]", *(f"item {kind}" for kind in kinds)]
+    lines += [f"connection {kind}" for kind in ("chord", "post", "brace", "hangs", "link")] + [f'connection "{kind}"' for kind in cables]
+    lines += ["[graph]", *(f"{name}: {name.split('-')[0]} day 2026-0{1 + i % 9}-15" for i, name in enumerate(items))]
+    pattern = ["[query bay] # A braced bay.", "a: top", "b: top", "c: bottom", "d: bottom"]
+    pattern += ["a -chord-> b", "c -chord-> d", "a -post-> c", "b -post-> d", "a -brace-> d"]
     return "\n".join([*lines, *dict.fromkeys(edges), *pattern, ""])
 
 
