@@ -1,7 +1,7 @@
 // What changed: changes are written, loaded or put together, and the places are gone, new or kept.
 
 import { byId, h, fill, shown, count, duration, sentence, later, textWidth } from "./dom.js";
-import { state, on, emit, chosenPattern, hangRead } from "./state.js";
+import { state, on, emit, chosenPattern, hangRead, itemNumber } from "./state.js";
 import { kindClass, kindIndex, kindWords } from "./kinds.js";
 import { makeEditor } from "./editor.js";
 import { makeRolling } from "./rolling.js";
@@ -35,12 +35,11 @@ function show(i) {
 }
 
 function numbers(names) {
-  const items = hangRead()?.items ?? [];
-  return names.map((name) => items.findIndex((item) => item.name === name)).filter((item) => item >= 0);
+  return names.map(itemNumber).filter((item) => item >= 0);
 }
 
 function chipOf(name) {
-  const item = hangRead()?.items.find((each) => each.name === name);
+  const item = hangRead()?.items[itemNumber(name)];
   return h("span", { class: `chip ${kindClass(kindIndex(state.reading?.kinds, item?.kind))}` }, name);
 }
 

@@ -81,7 +81,8 @@ export function makeEditor({ label, id, onInput, placeholder }) {
       return area.value;
     },
     /** Shows another text; the cursor stays where the text is the same. */
-    set(text) {
+    set(given) {
+      const text = given.replace(/\r\n?/g, "\n");
       if (area.value === text) return;
       const at = area.selectionStart;
       const isFocused = document.activeElement === area;

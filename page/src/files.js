@@ -2,7 +2,7 @@
 
 import { state, emit } from "./state.js";
 import { parted, titleOf } from "./sections.js";
-import { ask } from "./runs.js";
+import { ask, CHANGES_FILE, PATTERN_FILE } from "./runs.js";
 
 const isTable = (name) => /\.(csv|tsv|tab)$/i.test(name);
 
@@ -15,15 +15,27 @@ function decoded(name, bytes) {
   }
 }
 
+/** Each source has a name of its own, by which faults are told apart. */
+function apart(sources) {
+  const taken = new Set([PATTERN_FILE, CHANGES_FILE]);
+  return sources.map((source) => {
+    const [, stem, ending] = /^(.*?)(\.[^.]*)?$/.exec(source.name);
+    let { name } = source;
+    for (let n = 2; taken.has(name); n += 1) name = `${stem} (${n})${ending ?? ""}`;
+    taken.add(name);
+    return { ...source, name };
+  });
+}
+
 /** Which of hang, patterns and changes sources bring. */
 function sorted(sources) {
   const brought = { hang: [], patterns: [], changes: "" };
-  for (const source of sources) {
+  for (const source of apart(sources)) {
     if (isTable(source.name) || source.bytes) {
       brought.hang.push(source);
       continue;
     }
-    const parts = parted(source.text);
+    const parts = parted(source.text.replace(/\r\n?/g, "\n"));
     if (parts.hang.trim()) brought.hang.push({ name: source.name, text: parts.hang });
     brought.patterns.push(...parts.patterns.map((text) => ({ text })));
     brought.changes += parts.changes;

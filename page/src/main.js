@@ -124,7 +124,10 @@ async function arrive() {
     land();
     return true;
   }
-  if (!(await fromAddress(location.hash))) return false;
+  if (!(await fromAddress(location.hash))) {
+    if (location.hash.startsWith("#all=")) fill(byId("say"), "The address is damaged: nothing was taken from it.");
+    return false;
+  }
   emit("brought");
   land();
   return true;

@@ -93,7 +93,19 @@ function faultyParts(model) {
     if (e >= 0) edges.add(e);
     else model.vertices.forEach((_, v) => has(line, vertexName(model, v)) && names.add(vertexName(model, v)));
   }
+  const lonely = lonelyPart(model);
+  if (lonely.name !== null) names.add(lonely.name);
+  if (lonely.edge >= 0) edges.add(lonely.edge);
   return { faulty: names, faultyLines: edges };
+}
+
+/** What nothing in the hang fits, by the sentence of an empty list: the name of a vertex, or the number of a connection. */
+function lonelyPart(model) {
+  const why = state.found?.list?.n === 0 ? state.found.answer.why ?? "" : "";
+  const name = /^no item fits (.+?): /.exec(why)?.[1];
+  const words = /^no two items (?:that fit )?have (.+?): the hang/.exec(why)?.[1];
+  const edge = model.edges.findIndex(({ from, to, kind }) => words === `${vertexName(model, from)} -${kind ?? "any"}-> ${vertexName(model, to)}`);
+  return { why, name: name ?? null, edge };
 }
 
 /** The pairs that 'in any order' adds, as far as the last list says. */
@@ -112,7 +124,7 @@ function drawDrawing() {
   byId("pattern-drawing").setAttribute("aria-label", model ? patternWords(model) : "No pattern yet");
   if (focus) group.querySelector(`[data-key="${focus}"]`)?.focus();
   const errors = faults.filter((fault) => fault.severity === "error");
-  const hint = !model || model.vertices.length === 0 ? "" : !isDrawn(model) ? "Drag from one item to another for a connection." : errors.length ? `${count(errors.length, "fault")}: ${errors[0].reason}` : "";
+  const hint = !model || model.vertices.length === 0 ? "" : !isDrawn(model) ? "Drag from one item to another for a connection." : errors.length ? `${count(errors.length, "fault")}: ${errors[0].reason}` : lonelyPart(model).why;
   byId("pattern-hint").textContent = hint;
   byId("pattern-hint").classList.toggle("fault", errors.length > 0 && isDrawn(model));
   shown(byId("pattern-hint"), hint !== "");

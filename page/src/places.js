@@ -52,7 +52,7 @@ function measure() {
       if (name.length > seen.length) seen = name;
     }
     widest = Math.max(widest, textWidth(seen, CHIP), textWidth(current.answer.vertices[v], CHIP) + 4);
-    return Math.ceil(Math.min(widest, isPhone ? 180 : 260)) + 30;
+    return Math.ceil(Math.min(widest, isPhone ? 180 : 260)) + 24;
   });
 }
 

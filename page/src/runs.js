@@ -1,7 +1,7 @@
 // Readings and runs: each in a Worker, the long ones with their time and a way to cancel them.
 
 import { openEngine } from "./engine.js";
-import { state, on, emit, chosenPattern } from "./state.js";
+import { state, on, emit, chosenPattern, itemNumber } from "./state.js";
 import { titleOf } from "./sections.js";
 import { later } from "./dom.js";
 
@@ -11,6 +11,12 @@ export const runs = openEngine();
 
 export function ask(name, args) {
   return texts.call(name, args, {});
+}
+
+/** A call that may be long, with a way to cancel it. */
+export function longCall(name, args, onTime) {
+  const control = new AbortController();
+  return { answer: runs.call(name, args, { signal: control.signal, onTime }), cancel: () => control.abort() };
 }
 
 export const PATTERN_FILE = "pattern";
@@ -127,9 +133,8 @@ async function listOf(found) {
   const width = found.vertices.length;
   if (found.rowsFlat) return { width, n: found.places, flat: found.rowsFlat };
   await readingSettled();
-  const numbers = new Map((state.reading?.hang?.items ?? []).map((item, i) => [item.name, i]));
   const flat = new Uint32Array(found.rows.length * width);
-  found.rows.forEach((row, r) => row.forEach((name, v) => (flat[r * width + v] = numbers.get(name) ?? 0)));
+  found.rows.forEach((row, r) => row.forEach((name, v) => (flat[r * width + v] = Math.max(0, itemNumber(name)))));
   return { width, n: found.rows.length, flat };
 }
 

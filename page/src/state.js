@@ -40,6 +40,14 @@ export function kindsOfHang() {
   return state.reading?.kinds;
 }
 
+/** The number of an item by its name, or -1. */
+export function itemNumber(name) {
+  const hang = hangRead();
+  if (!hang) return -1;
+  hang.numbers ??= new Map(hang.items.map((item, i) => [item.name, i]));
+  return hang.numbers.get(name) ?? -1;
+}
+
 /** The hang of the last reading, or null. */
 export function hangRead() {
   return state.reading?.hang ?? null;

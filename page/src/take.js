@@ -1,9 +1,9 @@
 // Taking it along: the list as CSV, everything as text, the whole state in the address, the sheets on paper.
 
-import { byId, h, fill, count, sentence } from "./dom.js";
+import { byId, h, fill, shown, count, duration, sentence } from "./dom.js";
 import { state, on, chosenPattern, hangRead } from "./state.js";
 import { joined, sentenceOf, titleOf } from "./sections.js";
-import { allSources, ask, patternArgs } from "./runs.js";
+import { allSources, longCall, patternArgs } from "./runs.js";
 import { addressPart, keptHere } from "./keep.js";
 import { itemsOf } from "./places.js";
 
@@ -20,14 +20,24 @@ function download(name, text, type) {
 
 const fileName = (ending) => `${(state.title || "hang").toLowerCase().replace(/[^\p{L}\p{N}]+/gu, "-").replace(/^-|-$/g, "") || "hang"}${ending}`;
 
-/** Asks, and says why where there is no answer. */
+let cancel = () => {};
+
+/** Asks, with the time so far and a way to cancel where it is long, and says why where there is no answer. */
 async function answerOf(name, args) {
+  byId("save").close();
+  const call = longCall(name, args, (ms) => {
+    byId("taking-time").textContent = duration(ms);
+    shown(byId("taking"), true);
+  });
+  cancel = call.cancel;
   try {
-    const answer = await ask(name, args);
+    const answer = await call.answer;
     if (!answer.errorCount) return answer;
     say(`${count(answer.errorCount, "fault")}: ${sentence(answer.errors[0].reason)}`);
   } catch (failure) {
-    say(sentence(failure.words ?? String(failure)));
+    say(failure.cancelled ? "Cancelled. Nothing was saved." : sentence(failure.words ?? String(failure)));
+  } finally {
+    shown(byId("taking"), false);
   }
   return null;
 }
@@ -57,6 +67,7 @@ async function wholeText() {
 
 async function saveText() {
   const text = await wholeText();
+  byId("save").close();
   if (text === null) return;
   download(fileName(".txt"), text, "text/plain;charset=utf-8");
   say("Hang, patterns and changes saved as one text.");
@@ -119,6 +130,7 @@ function drawKept() {
 }
 
 export function startTake() {
+  byId("taking-cancel").addEventListener("click", () => cancel());
   byId("save-csv").addEventListener("click", saveCsv);
   byId("save-text").addEventListener("click", saveText);
   byId("save-address").addEventListener("click", saveAddress);

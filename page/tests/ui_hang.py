@@ -129,6 +129,16 @@ class HangWide(Hang, PageTest):
         self.page.until(lambda: self.page.text("#places-title") in ("Places", "No list"), "no list")
         self.assertEqual(self.page.rows(), [])
 
+    def test_a_text_of_another_system(self):
+        """Line ends and a mark at the beginning as another system writes them."""
+        text = (RIG / "hang.txt").read_text() + (RIG / "rules.txt").read_text()
+        self.page.open()
+        self.page.bring(self.page.temporary("windows.txt", "\ufeff" + text.replace("\n", "\r\n")))
+        self.page.until_places(1)
+        self.page.tab("hang")
+        self.until_summary()
+        self.assertEqual(self.page.texts("#pattern-choice option"), ["two-lapsed", "wired-lamps", "over-people"])
+
     def test_a_thousand_faults(self):
         self.page.open()
         self.page.bring(self.page.temporary("many.txt", "[graph]\na: truss\n" + "".join(f"a -x-> b{i}\n" for i in range(3000))))

@@ -76,6 +76,13 @@ class Places:
         self.page.until(lambda: self.page.text("#places-title") == "0 places", "no place")
         self.assertEqual(self.page.text("#places-all"), "0 places, all of them.")
         self.assertIn("No item fits m: of 1 of kind motor none was inspected", self.page.text("#places-words"))
+        self.page.tab("pattern")
+        self.page.until(lambda: self.page.texts("#pattern-content .faulty .name") == ["m"], "marked in the drawing")
+        self.page.write("#pattern-text", "[query other]\nt: truss\nm: motor\nt -carries-> m\n")
+        self.page.until(lambda: len(self.page.all("#pattern-content .edge.faulty")) == 1, "the connection is marked")
+        self.assertEqual(self.page.texts("#pattern-content .vertex.faulty .name"), [])
+        self.page.tab("places")
+        self.page.until(lambda: "No two items that fit have t -carries-> m" in self.page.text("#places-words"), "and said")
 
 
 class PlacesWide(Places, PageTest):

@@ -134,6 +134,26 @@ class TakeWide(Take, PageTest):
         self.page.cdp("Emulation.setEmulatedMedia", media="")
         self.page.look("window.dispatchEvent(new Event('afterprint'))")
 
+    def test_a_long_saving_is_cancelled(self):
+        n = 150
+        items = "".join(f"m{i}: motor\nt{i}: truss\n" for i in range(n)) + "".join(f"m{i} -carries-> t{j}\n" for i in range(n) for j in range(n))
+        heavy = "[query heavy]\n" + "".join(f"a{i}: motor\n" for i in range(4)) + "b: truss\n" + "".join(f"a{i} -carries-> b\n" for i in range(4))
+        self.page.example()
+        self.page.until_places(1)
+        # The list is there; what is saved is asked of another hang, which takes long.
+        self.page.look("const { engine } = window.rizhavaan; const call = engine.call; const text = arguments[0];"
+                       "engine.call = (name, args, more) => call(name, name === 'csv' ? { ...args, pattern: 'heavy', sources: [{ name: 'heavy.txt', text }] } : args, more)",
+                       "[graph]\n" + items + heavy)
+        self.menu()
+        self.page.tap("#save-csv")
+        self.page.until(lambda: self.page.is_seen("#taking-cancel"), "the time so far and Cancel")
+        self.assertRegex(self.page.text("#taking-time"), r"^\d+ ms$|^\d+\.\d s$")
+        self.page.tap("#taking-cancel")
+        self.page.until(lambda: self.page.text("#say") == "Cancelled. Nothing was saved.", "cancelled")
+        self.assertFalse(self.page.is_seen("#taking"))
+        self.page.tap("#once")
+        self.page.until_places(1)
+
     def test_by_keyboard_alone(self):
         self.start()
         self.page.tab_to("#show-save")
@@ -148,6 +168,7 @@ class TakeWide(Take, PageTest):
     def test_a_damaged_address_is_passed_over(self):
         self.page.open("#all=AAAA")
         self.page.until(lambda: self.page.is_seen("#hang-empty"), "nothing is taken in")
+        self.assertEqual(self.page.text("#say"), "The address is damaged: nothing was taken from it.")
 
 
 class TakeOnAPhone(Take, PageTest):
