@@ -130,6 +130,7 @@ class PlacesWide(Places, PageTest):
         self.page.node("#list").click()
         self.page.keys(Keys.END)
         self.page.until(lambda: self.page.rows()[-1] == [f"m{n - 1}", f"t{n - 1}"], "the last row")
+        self.assertLessEqual(self.page.look("return document.getElementById('list').scrollHeight"), 8_000_000)
         self.page.keys(Keys.ARROW_UP)
         self.page.until(lambda: self.page.text("#step-words") == f"{n * n - 1:,} of {n * n:,}", "the one before")
         self.page.look("const list = document.getElementById('list'); list.scrollTop = (list.scrollHeight - list.clientHeight) / 2")

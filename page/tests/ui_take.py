@@ -106,8 +106,8 @@ class Take:
 
 
 class TakeWide(Take, PageTest):
-    def printed_pages(self):
-        pdf = base64.b64decode(self.page.cdp("Page.printToPDF", paperWidth=8.27, paperHeight=11.69, preferCSSPageSize=False)["data"])
+    def printed_pages(self, width, height):
+        pdf = base64.b64decode(self.page.cdp("Page.printToPDF", paperWidth=width, paperHeight=height, preferCSSPageSize=False)["data"])
         return len(re.findall(rb"/Type\s*/Page[^s]", pdf))
 
     def test_on_paper(self):
@@ -120,7 +120,8 @@ class TakeWide(Take, PageTest):
         self.page.tap("#print")
         self.page.until(lambda: self.page.look("return window.asked"), "the sheets")
         self.assertEqual(len(self.page.all("#sheets .page:not(.key)")), 3)
-        self.assertEqual(self.printed_pages(), 4, "three sheets and a key, a paper each")
+        for paper in [(8.27, 11.69), (8.5, 11), (11.69, 16.54)]:
+            self.assertEqual(self.printed_pages(*paper), 4, "three sheets and a key, a paper each, whatever its size")
 
     def test_without_the_sheets(self):
         self.start("over-people", 8)
