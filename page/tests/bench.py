@@ -12,7 +12,9 @@ import time
 
 from harness import PAGE, ROOT, Browser, program
 
-ROUNDS = 15
+ROUNDS = 12
+CALLS = 5
+TRIES = 3
 ENGINE_BOUND = 1.3
 FIRST_LIST_MS = 1_000
 LARGE_MS = 2_000
@@ -31,22 +33,39 @@ def triangle():
 
 
 def rig():
-    """65,000 items: trusses of braced bays, with a motor and a lamp below every bay."""
-    lines = ["[kinds]", "item top", "item bottom", "item motor", "item lamp"]
-    lines += [f"connection {kind}" for kind in ("chord", "post", "brace", "hangs", "clamp", "cable")] + ["[graph]"]
-    bays, trusses, edges = 50, 325, []
+    """65,000 items: trusses of braced bays, with motors on chains below every third bottom joint, and cables of many kinds."""
     numbers = random.Random(2)
-    for t in range(trusses):
-        for b in range(bays):
-            for kind in ("top", "bottom", "motor", "lamp"):
-                lines.append(f"{kind}-{t}-{b}: {kind} day 2026-0{1 + (t + b) % 9}-15")
-            if b + 1 < bays:
-                edges += [f"top-{t}-{b} -chord-> top-{t}-{b + 1}", f"bottom-{t}-{b} -chord-> bottom-{t}-{b + 1}"]
-                edges.append(f"top-{t}-{b} -brace-> bottom-{t}-{b + 1}")
-            edges += [f"top-{t}-{b} -post-> bottom-{t}-{b}", f"bottom-{t}-{b} -hangs-> motor-{t}-{b}", f"motor-{t}-{b} -clamp-> lamp-{t}-{b}"]
-            edges.append(f"lamp-{t}-{b} -cable-> lamp-{t}-{numbers.randrange(bays)}")
-    pattern = ["[query bay] # A motor below a braced bay.", "a: top", "b: top", "c: bottom", "d: bottom", "motor: motor"]
-    pattern += ["a -chord-> b", "c -chord-> d", "a -post-> c", "b -post-> d", "a -brace-> d", "d -hangs-> motor"]
+    kinds = ("top", "bottom", "motor", "link")
+    cables = [f"cable {number}" for number in range(1, 34)]
+    items, edges = [], []
+
+    def item(kind):
+        items.append(f"{kind}-{len(items):05}")
+        return items[-1]
+
+    while len(items) < 64_950:
+        before = None
+        for bay in range(numbers.randrange(8, 24)):
+            top, bottom = item("top"), item("bottom")
+            edges.append(f"{top} -post-> {bottom}")
+            if before:
+                edges += [f"{before[0]} -chord-> {top}", f"{before[1]} -chord-> {bottom}", f"{before[0]} -brace-> {bottom}"]
+            before = top, bottom
+            if bay % 3 == 0:
+                above = item("motor")
+                edges.append(f"{bottom} -hangs-> {above}")
+                for _ in range(numbers.randrange(2, 8)):
+                    below = item("link")
+                    edges.append(f"{above} -link-> {below}")
+                    above = below
+    for _ in range(len(items) // 2):
+        a = numbers.randrange(len(items) - 61)
+        edges.append(f'{items[a]} -"{numbers.choice(cables)}"-> {items[a + numbers.randrange(1, 61)]}')
+    lines = ["[kinds]", *(f"item {kind}" for kind in kinds)]
+    lines += [f"connection {kind}" for kind in ("chord", "post", "brace", "hangs", "link")] + [f'connection "{kind}"' for kind in cables]
+    lines += ["[graph]", *(f"{name}: {name.split('-')[0]} day 2026-0{1 + i % 9}-15" for i, name in enumerate(items))]
+    pattern = ["[query bay] # A braced bay.", "a: top", "b: top", "c: bottom", "d: bottom"]
+    pattern += ["a -chord-> b", "c -chord-> d", "a -post-> c", "b -post-> d", "a -brace-> d"]
     return "\n".join([*lines, *dict.fromkeys(edges), *pattern, ""])
 
 
@@ -107,80 +126,111 @@ def size(buffer):
 
 
 # The engine in the module of the page, in memory of its own behind the module's.
-IN_BROWSER = """
-    const [module, graph, query, plan, storeWords, scratchWords, listWords, rounds, operators] = args;
+PREPARE = """
+    const [module, graph, query, plan, storeWords, scratchWords, listWords, operators] = args;
     const bytes = (text) => Uint8Array.from(atob(text), (c) => c.charCodeAt(0));
-    if (!window.benched) window.benched = {};
-    const key = graph.length;
-    if (!window.benched[key]) {
-        const { exports } = (await WebAssembly.instantiate(bytes(module))).instance;
-        const parts = { graph: bytes(graph), query: bytes(query), plan: bytes(plan) };
-        const words = { store: storeWords, scratch: scratchWords, list: listWords, records: 4 * operators, numbers: 8 };
-        const sizes = [...Object.entries(parts).map(([name, part]) => [name, part.length]), ...Object.entries(words).map(([name, n]) => [name, 4 * n])];
-        const total = sizes.reduce((sum, [, n]) => sum + n + 64, 0);
-        let next = exports.memory.grow(Math.ceil(total / 65536)) * 65536;
-        const at = {};
-        for (const [name, n] of sizes) { at[name] = next; next = (next + n + 63) & ~63; }
-        for (const [name, part] of Object.entries(parts)) new Uint8Array(exports.memory.buffer).set(part, at[name]);
-        window.benched[key] = { exports, parts, at };
-    }
-    const { exports, parts, at } = window.benched[key];
+    const { exports } = (await WebAssembly.instantiate(bytes(module))).instance;
+    const parts = { graph: bytes(graph), query: bytes(query), plan: bytes(plan) };
+    const words = { store: storeWords, scratch: scratchWords, list: listWords, records: 4 * operators, numbers: 8 };
+    const sizes = [...Object.entries(parts).map(([name, part]) => [name, part.length]), ...Object.entries(words).map(([name, n]) => [name, 4 * n])];
+    const total = sizes.reduce((sum, [, n]) => sum + n + 64, 0);
+    let next = exports.memory.grow(Math.ceil(total / 65536)) * 65536;
+    const at = {};
+    for (const [name, n] of sizes) { at[name] = next; next = (next + n + 63) & ~63; }
+    for (const [name, part] of Object.entries(parts)) new Uint8Array(exports.memory.buffer).set(part, at[name]);
     const big = BigInt, n = (i) => at.numbers + 8 * i;
-    const load = () => exports.rizhavaan_load(at.graph, big(parts.graph.length), at.store, big(storeWords), n(0), n(1));
-    const run = () => exports.rizhavaan_run(at.store, big(storeWords), at.query, big(parts.query.length), at.plan, big(parts.plan.length), 1,
-        at.scratch, big(scratchWords), at.list, big(listWords), at.records, big(operators), n(0), n(1), n(2), n(3));
-    const timed = (what) => {
-        const begun = performance.now();
-        for (let i = 0; i < rounds; i += 1) if (what() !== 0) throw new Error("refused");
-        return (performance.now() - begun) / rounds;
-    };
-    const times = { load: timed(load), run: timed(run) };
-    return { ...times, rows: Number(new BigUint64Array(exports.memory.buffer, at.numbers, 1)[0]) };"""
+    window.benched = {
+        nothing: () => 0,
+        load: () => exports.rizhavaan_load(at.graph, big(parts.graph.length), at.store, big(storeWords), n(0), n(1)),
+        run: () => exports.rizhavaan_run(at.store, big(storeWords), at.query, big(parts.query.length), at.plan, big(parts.plan.length), 1,
+            at.scratch, big(scratchWords), at.list, big(listWords), at.records, big(operators), n(0), n(1), n(2), n(3)),
+        rows: () => Number(new BigUint64Array(exports.memory.buffer, at.numbers, 1)[0]),
+    };"""
+
+CALL = """
+    for (let i = 0; i < args[1]; i += 1) if (window.benched[args[0]]() !== 0) throw new Error("refused");
+    return window.benched.rows();"""
+
+
+class Renderer:
+    """The thread that a page's scripts run in. Its processor time counts, so that what else the machine does matters little."""
+
+    def __init__(self, browser):
+        self.browser = browser
+        before = {pid: self.spent(pid) for pid in self.all()}
+        browser.js("const end = performance.now() + 300; while (performance.now() < end);")
+        self.pid = max(before, key=lambda pid: self.spent(pid) - before[pid])
+
+    @staticmethod
+    def spent(pid):
+        return int(pathlib.Path(f"/proc/{pid}/task/{pid}/schedstat").read_text().split()[0])
+
+    def all(self):
+        folder = self.browser.folder
+        for path in pathlib.Path("/proc").glob("[0-9]*/cmdline"):
+            try:
+                words = path.read_bytes().decode(errors="replace")
+            except OSError:
+                continue
+            if "--type=renderer" in words and folder in words:
+                yield int(path.parent.name)
+
+    def calls(self, what, count):
+        """Milliseconds of a call, and the rows of the last."""
+        begun = self.spent(self.pid)
+        rows = self.browser.js(CALL, what, count)
+        return (self.spent(self.pid) - begun) / 1e6, rows
 
 
 def engine(browser, module, name, text):
-    """The times of Load and Run in the browser and by the library, the least of several rounds in turn."""
+    """The times of Load and Run by the library and in the browser, the least of several rounds in turn."""
     graph, query = packed(text)
     native = Native(graph, query)
     scratch, listed, rows = native.prepare()
     coded = [base64.b64encode(part).decode() for part in (graph, query, native.plan_bytes)]
+    browser.js(PREPARE, module, *coded, native.words, scratch, listed, MAX_OPERATORS)
+    renderer = Renderer(browser)
     best = {"load": [1e9, 1e9], "run": [1e9, 1e9]}
+    nothing = min(renderer.calls("nothing", CALLS)[0] for _ in range(ROUNDS))
     for _ in range(ROUNDS):
-        told = browser.js(IN_BROWSER, module, *coded, native.words, scratch, listed, 2, MAX_OPERATORS)
-        assert told["rows"] == rows, (told, rows)
         for what, call in (("load", native.load), ("run", native.run)):
-            begun = time.perf_counter()
-            for _ in range(2):
+            begun = time.thread_time_ns()
+            for _ in range(CALLS):
                 assert call() == 0
-            best[what][0] = min(best[what][0], (time.perf_counter() - begun) * 500)
-            best[what][1] = min(best[what][1], told[what])
+            best[what][0] = min(best[what][0], (time.thread_time_ns() - begun) / 1e6 / CALLS)
+            spent, listed_rows = renderer.calls(what, CALLS)
+            assert what == "load" or listed_rows == rows, (listed_rows, rows)
+            best[what][1] = min(best[what][1], (spent - nothing) / CALLS)
     for what, (by_library, in_browser) in best.items():
         ratio = in_browser / by_library
         yield f"{name}, {what}, {rows} rows", f"{by_library:.2f} ms", f"{in_browser:.2f} ms", f"{ratio:.2f}", what == "load" or ratio <= ENGINE_BOUND
 
 
 def whole(text):
-    """From opening a new browser to the example's list, and a large rig from its text to its list."""
-    browser = Browser()
-    browser.open()
-    first = browser.js(
-        """const [example] = await rizhavaan.engine.call("examples");
-           const found = await rizhavaan.find(example.text, { patterns: ["two-lapsed"] });
-           if (found.places !== 1) throw new Error("no list");
-           return performance.now();""")
-    yield "opened, to the example's list", "", f"{first:.0f} ms", "", first <= FIRST_LIST_MS
-    told = browser.js(
-        """const sources = [{ name: "rig.txt", text: args[0] }];
-           const begun = performance.now();
-           const read = await rizhavaan.engine.call("read", { sources });
-           const half = performance.now();
-           const found = (await rizhavaan.engine.call("find", { sources })).patterns[0];
-           return { read: half - begun, find: performance.now() - half, items: read.hang.items.length, places: found.places };""",
-        text)
-    total = told["read"] + told["find"]
+    """From opening a new browser to the example's list, and a large rig from its text to its list; the least of several tries."""
+    first, large = [], []
+    for _ in range(TRIES):
+        browser = Browser()
+        browser.open()
+        first.append(browser.js(
+            """const [example] = await rizhavaan.engine.call("examples");
+               const found = await rizhavaan.find(example.text, { patterns: ["two-lapsed"] });
+               if (found.places !== 1) throw new Error("no list");
+               return performance.now();"""))
+        large.append(browser.js(
+            """const sources = [{ name: "rig.txt", text: args[0] }];
+               const begun = performance.now();
+               const read = await rizhavaan.engine.call("read", { sources });
+               const half = performance.now();
+               const found = (await rizhavaan.engine.call("find", { sources })).patterns[0];
+               const end = performance.now();
+               return { all: end - begun, read: half - begun, find: end - half, items: read.hang.items.length, places: found.places };""",
+            text))
+        browser.close()
+    yield "opened, to the example's list", "", f"{min(first):.0f} ms", "", min(first) <= FIRST_LIST_MS
+    told = min(large, key=lambda told: told["all"])
     label = f"{told['items']} items: read {told['read']:.0f} ms, found {told['find']:.0f} ms, {told['places']} places"
-    yield label, "", f"{total:.0f} ms", "", total <= LARGE_MS
-    browser.close()
+    yield label, "", f"{told['all']:.0f} ms", "", told["all"] <= LARGE_MS
 
 
 def main():
