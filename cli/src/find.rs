@@ -3,6 +3,7 @@
 use std::io::Write;
 
 use rizhavaan_core::explain::instead;
+use rizhavaan_core::export;
 use rizhavaan_core::json::{pair_words, FoundJson};
 use rizhavaan_core::kinds::Kinds;
 use rizhavaan_core::summary::Summary;
@@ -68,7 +69,7 @@ pub fn run(arguments: &Find) -> Result<u8> {
 
 fn write(output: &mut Output, arguments: &Find, loaded: &Loaded, all: &[Found]) -> Result<()> {
     if arguments.json {
-        let views: Vec<FoundJson> = all.iter().map(|found| FoundJson { loaded, found }).collect();
+        let views: Vec<FoundJson> = all.iter().map(|found| FoundJson { loaded, found, list: true }).collect();
         let written = match &views[..] {
             [one] => serde_json::to_writer(&mut *output, one),
             several => serde_json::to_writer(&mut *output, &std::collections::BTreeMap::from([("patterns", several)])),
@@ -85,7 +86,7 @@ fn write(output: &mut Output, arguments: &Find, loaded: &Loaded, all: &[Found]) 
             _ if arguments.sheet => {
                 sheet(output, found)?;
                 if arguments.key {
-                    key(output, loaded, found)?;
+                    output.write_all(export::key(loaded, found).as_bytes())?;
                 }
             }
             _ => {
@@ -113,38 +114,11 @@ fn sheet(output: &mut Output, found: &Found) -> Result<()> {
     }
 }
 
-/// Columns of a line of the sheet, and those of the number and the blanks before a name in its key.
-const SHEET_COLUMNS: usize = 80;
-const KEY_INDENT: usize = 10;
-
-/// Writes which item each number on the pages is, ascending, in lines as wide as theirs; a long name goes on in the next line.
-fn key(output: &mut Output, loaded: &Loaded, found: &Found) -> Result<()> {
-    let items: std::collections::BTreeSet<u32> = found.rows().flat_map(|row| row.iter().copied()).collect();
-    let heading = format!("Key to the item numbers above: {} items", items.len());
-    writeln!(output, "{heading:<SHEET_COLUMNS$}")?;
-    for item in items {
-        let name: Vec<char> = loaded.hang.item(item).chars().collect();
-        for (i, part) in name.chunks(SHEET_COLUMNS - KEY_INDENT).enumerate() {
-            let number = if i == 0 { item.to_string() } else { String::new() };
-            let line = format!("{number:>8}  {}", part.iter().collect::<String>());
-            writeln!(output, "{line:<SHEET_COLUMNS$}")?;
-        }
-    }
-    Ok(())
-}
-
 fn csv(output: &mut Output, loaded: &Loaded, found: &Found) -> Result<()> {
-    let failed = |e: csv::Error| match e.into_kind() {
+    export::csv(&mut *output, loaded, found).map_err(|e| match e.into_kind() {
         csv::ErrorKind::Io(e) => Stop::Output(e),
         other => Stop::Because(format!("{other:?}")),
-    };
-    let mut writer = csv::WriterBuilder::new().terminator(csv::Terminator::CRLF).from_writer(&mut *output);
-    writer.write_record(found.pattern.vertices()).map_err(failed)?;
-    for row in found.rows() {
-        writer.write_record(row.iter().map(|&item| loaded.hang.item(item).into_owned())).map_err(failed)?;
-    }
-    writer.flush()?;
-    drop(writer);
+    })?;
     tell(&format!("{}, all of them", list::places(found.places())));
     Ok(())
 }

@@ -26,9 +26,11 @@ pub fn explain(engine: &dyn Engine, loaded: &Loaded, found: &Found, memory: usiz
         let _ = writeln!(out, "{sentence}");
     }
     out.push('\n');
-    words(&mut out, document, found);
+    for (i, step) in steps(document, found).iter().enumerate() {
+        let _ = writeln!(out, "{}. {step}", i + 1);
+    }
     out.push('\n');
-    drawing(&mut out, document, found);
+    out.push_str(&tree(document, found));
     out.push('\n');
     let query = found.query.to_bytes();
     let estimate = found.estimate.clone().or_else(|| loaded.estimate(&query, &found.plan_bytes));
@@ -102,13 +104,15 @@ fn rows(estimated: f64) -> String {
 /// The result of an operator: the vertices it covers.
 type Covered = Vec<u32>;
 
-fn words(out: &mut String, document: &Document, found: &Found) {
+/// A sentence for each operator.
+pub fn steps(document: &Document, found: &Found) -> Vec<String> {
     let pattern = found.pattern;
     let query = &found.query;
     let list = |vertices: &[u32]| vertices.iter().map(|&v| pattern.vertex(v)).collect::<Vec<_>>().join(", ");
     let mut pile: Vec<Covered> = Vec::new();
-    for (i, &operator) in found.plan.operators.iter().enumerate() {
-        let sentence = match operator {
+    let mut steps = Vec::with_capacity(found.plan.operators.len());
+    for &operator in &found.plan.operators {
+        steps.push(match operator {
             Operator::Scan(e) => {
                 let e = &query.edges[e as usize];
                 pile.push(vec![e.source, e.target]);
@@ -134,9 +138,9 @@ fn words(out: &mut String, document: &Document, found: &Found) {
                 pile.push(both);
                 sentence
             }
-        };
-        let _ = writeln!(out, "{}. {sentence}", i + 1);
+        });
     }
+    steps
 }
 
 /// The connections between a vertex and covered ones, in words.
@@ -148,7 +152,7 @@ fn between(document: &Document, pattern: &Pattern, edges: &[Edge], v: u32, cover
 }
 
 /// The plan as a tree, the last operator on top.
-fn drawing(out: &mut String, document: &Document, found: &Found) {
+pub fn tree(document: &Document, found: &Found) -> String {
     let mut pile: Vec<Vec<String>> = Vec::new();
     for &operator in &found.plan.operators {
         let mut lines = vec![document.operator(found.pattern, operator)];
@@ -172,9 +176,7 @@ fn drawing(out: &mut String, document: &Document, found: &Found) {
         }
         pile.push(lines);
     }
-    for line in pile.iter().flatten() {
-        let _ = writeln!(out, "{line}");
-    }
+    pile.iter().flatten().map(|line| format!("{line}\n")).collect()
 }
 
 const BAR: u64 = 24;

@@ -16,11 +16,13 @@ use crate::text::read;
 pub struct FoundJson<'a> {
     pub loaded: &'a Loaded<'a>,
     pub found: &'a Found<'a>,
+    /// The rows are listed, and not left out.
+    pub list: bool,
 }
 
 impl Serialize for FoundJson<'_> {
     fn serialize<S: Serializer>(&self, serializer: S) -> Result<S::Ok, S::Error> {
-        let FoundJson { loaded, found } = self;
+        let FoundJson { loaded, found, list } = self;
         let document = loaded.document;
         let pattern = found.pattern;
         let mut map = serializer.serialize_map(None)?;
@@ -28,7 +30,9 @@ impl Serialize for FoundJson<'_> {
         map.serialize_entry("sentence", &pattern.sentence)?;
         map.serialize_entry("vertices", &pattern.vertices())?;
         map.serialize_entry("places", &found.places())?;
-        map.serialize_entry("rows", &RowsJson(self))?;
+        if *list {
+            map.serialize_entry("rows", &RowsJson(self))?;
+        }
         map.serialize_entry("cost", &found.cost)?;
         map.serialize_entry("build", &found.build)?;
         map.serialize_entry("probe", &found.probe)?;
@@ -57,7 +61,7 @@ struct RowsJson<'a>(&'a FoundJson<'a>);
 
 impl Serialize for RowsJson<'_> {
     fn serialize<S: Serializer>(&self, serializer: S) -> Result<S::Ok, S::Error> {
-        let FoundJson { loaded, found } = self.0;
+        let FoundJson { loaded, found, .. } = self.0;
         let mut rows = serializer.serialize_seq(Some(found.places()))?;
         let mut names = Vec::with_capacity(found.width());
         for row in found.rows() {
@@ -73,7 +77,7 @@ struct RecordsJson<'a>(&'a FoundJson<'a>);
 
 impl Serialize for RecordsJson<'_> {
     fn serialize<S: Serializer>(&self, serializer: S) -> Result<S::Ok, S::Error> {
-        let FoundJson { loaded, found } = self.0;
+        let FoundJson { loaded, found, .. } = self.0;
         let mut records = serializer.serialize_seq(Some(found.records.len()))?;
         for (record, &operator) in found.records.iter().zip(&found.plan.operators) {
             records.serialize_element(&serde_json::json!({
@@ -151,7 +155,7 @@ fn found_all(
     let loaded = Loaded::load(engine, document)?;
     let value = |pattern: &Pattern| match loaded.find(engine, pattern, options) {
         Ok(found) => {
-            let view = FoundJson { loaded: &loaded, found: &found };
+            let view = FoundJson { loaded: &loaded, found: &found, list: true };
             let mut value = serde_json::to_value(&view).unwrap_or_default();
             if found.places() == 0 {
                 value["why"] = crate::why::why(&loaded, &found).into();

@@ -6,6 +6,7 @@ pub mod diff;
 pub mod document;
 pub mod engine;
 pub mod explain;
+pub mod export;
 pub mod failure;
 pub mod find;
 pub mod json;
