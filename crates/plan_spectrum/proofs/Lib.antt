@@ -11,3 +11,5 @@ pub mod Pricing
 pub mod Entering
 pub mod Answers
 pub mod Finishing
+pub mod Claimed
+pub mod Worked
