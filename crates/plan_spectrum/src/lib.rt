@@ -20,6 +20,7 @@ ghost use Rattle.operators.specs.Limit.{maxWords};
 ghost use Rattle.execution.specs.Run.{runScratch};
 ghost use Rattle.plan_spectrum.specs.Orders.{planOf};
 ghost use Rattle.plan_spectrum.specs.Spectrum.{orderingsAnswer, orderingsWords};
+ghost use Rattle.plan_spectrum.specs.Claims.{EveryOrderingListed};
 ghost use Rattle.plan_spectrum.specs.inner.Parts.{Small, Lie, AllRun, Settled};
 
 // What all orderings answers: a refusal with 0, or 0 with the number of plans.
@@ -94,9 +95,9 @@ fn write_orderings(store: &[u32], q: Query, work: &mut [u32], words: &mut [u32])
         return OrderingsAnswer::refused(32);
     }
     let mut costs = [0u64; OrderingsAnswer::MAX_PLANS];
-    let fault = run_orderings(store, q, &list, plans, work, &mut costs);
-    if fault != 0 {
-        return OrderingsAnswer::refused(fault);
+    let limit = run_orderings(store, q, &list, plans, work, &mut costs);
+    if limit != 0 {
+        return OrderingsAnswer::refused(limit);
     }
     writing::write_entries(q.vertices - 1, plans, &list, &costs, words);
     OrderingsAnswer { refusal: 0, plans }
@@ -138,6 +139,7 @@ pub fn orderings(
     ensures answer { λ r. ⌜ r ≡ orderingsAnswer (now (store .entry)) (now (query .entry)) (length (now (scratch .entry))) (length (now (words .entry))) ⌝ }
     ensures listed { λ _. ⌜ now (words .exit) ≡ orderingsWords (now (store .entry)) (now (query .entry)) (length (now (scratch .entry))) (now (words .entry)) ⌝ }
     ensures cleared { λ _. ⌜ now (scratch .exit) ≡ runScratch (now (scratch .entry)) ⌝ }
+    ensures every { λ _. ⌜ EveryOrderingListed (graphIn (now (store .entry))) (now (query .entry)) ⌝ }
 {
     let length = counted(scratch.len());
     let answer = orderings_counted(store, query, &mut scratch[..length], words);

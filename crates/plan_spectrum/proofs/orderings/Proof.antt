@@ -6,7 +6,9 @@ use lib.ListN.{length, take, length-append}
 use lib.Seq.{length-take-le}
 use Rattle.execution.specs.Run.{counted}
 use Rattle.run.proofs.Answers.{cleared-scratch}
+use Rattle.graph.specs.Store.{graphIn}
 use Rattle.plan_spectrum.proofs.Answers.{Done, counted-done}
+use Rattle.plan_spectrum.proofs.Claimed.{every-ordering}
 use borrow.Author.Needs.{needs}
 use Rattle.plan_spectrum.proofs.orderings.Statement.{statement}
 use Rattle.plan_spectrum.proofs.orderings.Tie as tie
@@ -63,7 +65,13 @@ returns c =
     let done = counted-done (a .store .now) (a .query .now) (length (a .scratch .now)) (a .words .now) (r .orderings-counted .last .1 .1 .1 .0) (r .orderings-counted .result)
     (subst (λ (n : ℕ). Done (a .store .now) (a .query .now) n (a .words .now) (r .orderings-counted .result) (r .orderings-counted .last .1 .1 .1 .0)) (part-length k) (r .orderings-counted .ensures)) in (
       done .0,
-      (done .1, cleared-scratch (k .counted .result) (a .scratch .now) (r .orderings-counted .last .1 .1 .0) _ (k .counted .ensures) (left-length r) (c .before .before .clear-used .ensures)),
+      (
+        done .1,
+        (
+          cleared-scratch (k .counted .result) (a .scratch .now) (r .orderings-counted .last .1 .1 .0) _ (k .counted .ensures) (left-length r) (c .before .before .clear-used .ensures),
+          every-ordering (graphIn (a .store .now)) (a .query .now),
+        ),
+      ),
     )
 
 pub orderings-spec : {M : Type 1} → statement M
