@@ -13,6 +13,12 @@ pub const MAX_OPERATORS: usize = 31;
 /// A drawn plan has no more bytes than this.
 pub const MAX_DRAWN_BYTES: usize = 6;
 
+/// The most vertices that a query may have whose orderings are listed.
+pub const MAX_ORDERING_VERTICES: usize = 5;
+
+/// As many words serve every list of orderings: 144 entries of 6.
+pub const MAX_ORDERING_WORDS: usize = 864;
+
 /// The bytes of a page: 60 lines of 80 columns, each with a line feed.
 pub const PAGE_BYTES: usize = 4860;
 
@@ -128,6 +134,32 @@ pub fn draw_plan_into(store: &[u32], query: &[u8], plan: &mut [u8]) -> Result<us
     };
     accepted(number)?;
     Ok(size(bytes))
+}
+
+/// Lists every accepted plan of one scan and extends of a query of at most [`MAX_ORDERING_VERTICES`] vertices, with its cost: n + 1 words
+/// each, the scan's index, the vertices in turn, the cost's high word, its low word. Answers how many they are; [`MAX_ORDERING_WORDS`]
+/// words are always enough.
+///
+/// Each ordering is run once with the cache on, its rows counted and not listed; the first that the scratch is too short for refuses all.
+/// Refused, the words are untouched; listed, those past the last entry are. The scratch, up to [`MAX_WORDS`], is zero afterwards.
+pub fn orderings_into(store: &[u32], query: &[u8], scratch: &mut [u32], words: &mut [u32]) -> Result<usize, Refusal> {
+    let mut plans = 0;
+    // SAFETY: each pointer and length are those of one slice, and the number is a local. Scratch and words are borrowed alone.
+    let number = unsafe {
+        sys::rizhavaan_orderings(
+            store.as_ptr(),
+            store.len(),
+            query.as_ptr(),
+            query.len(),
+            scratch.as_mut_ptr(),
+            scratch.len(),
+            words.as_mut_ptr(),
+            words.len(),
+            &mut plans,
+        )
+    };
+    accepted(number)?;
+    Ok(size(plans))
 }
 
 /// Runs a plan over a store: the rows are the list's first words, as many a row as the query has vertices, no two the same. The
