@@ -75,8 +75,8 @@ pub struct Files {
 /// How to look.
 #[derive(Args, Clone)]
 pub struct How {
-    /// The plan: 'given' in the text, 'picked' by estimates of its time or 'drawn' by the engine's rule; all list the same
-    /// places, in an order of their own [default: given where there is one, else picked]
+    /// The plan: 'given' in the text, 'picked' by estimates of its time, 'drawn' by the engine's rule, or the 'cheapest' of
+    /// one scan and extends, for patterns of at most 5 items; all list the same places, in an order of their own [default: given where there is one, else picked]
     #[arg(long, value_enum, value_name = "PLAN")]
     pub plan: Option<PlanArgument>,
     /// List mirror images once
@@ -92,6 +92,7 @@ pub enum PlanArgument {
     Given,
     Picked,
     Drawn,
+    Cheapest,
 }
 
 #[derive(Args)]
@@ -159,6 +160,9 @@ pub struct Explain {
     /// Only the pattern of this name; may be repeated
     #[arg(long, short, value_name = "NAME")]
     pub pattern: Vec<String>,
+    /// All plans of one scan and extends with their costs besides, for patterns of at most 5 items
+    #[arg(long)]
+    pub orderings: bool,
     #[command(flatten)]
     pub how: How,
 }

@@ -31,6 +31,10 @@ impl Engine for Library {
         Ok(Bounds { list_words, scratch_words, cost, largest })
     }
 
+    fn orderings(&self, store: &[u32], query: &[u8], scratch: &mut [u32], words: &mut [u32]) -> Result<u64, Refusal> {
+        library::orderings_into(store, query, scratch, words).map(|plans| plans as u64).map_err(refused)
+    }
+
     fn page(&self, list: &[u32], width: usize, rows: usize, page: u64, bytes: &mut [u8]) -> Result<u64, Refusal> {
         library::page_into(list, width, rows, page as usize, bytes).map(|pages| pages as u64).map_err(refused)
     }

@@ -28,6 +28,7 @@ pub fn options(how: &How, count_only: bool) -> Options {
             Some(PlanArgument::Given) => Choice::Given,
             Some(PlanArgument::Picked) => Choice::Picked,
             Some(PlanArgument::Drawn) => Choice::Drawn,
+            Some(PlanArgument::Cheapest) => Choice::Cheapest,
         },
         once: how.once,
         memory: how.memory.unwrap_or_else(memory::half_of_free),

@@ -5,7 +5,7 @@ use std::path::Path;
 use std::process::{Command, Stdio};
 
 use rizhavaan_core::picture::dot;
-use rizhavaan_core::{chosen, explain, find, sql, Loaded};
+use rizhavaan_core::{chosen, explain, find, orderings, sql, Loaded};
 
 use crate::args::{Explain, Picture, Sql};
 use crate::engine::Library;
@@ -27,6 +27,9 @@ pub fn explain(arguments: &Explain) -> Result<u8> {
     for pattern in patterns {
         let found = read.explain(loaded.find(&Library, pattern, &options))?;
         all.push(read.explain(explain::explain(&Library, &loaded, &found, options.memory))?);
+        if arguments.orderings {
+            all.push(read.explain(orderings::plot(&Library, &loaded, &found, options.memory))?);
+        }
     }
     progress.end();
     let mut output = Output::new(None)?;

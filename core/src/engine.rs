@@ -61,6 +61,12 @@ pub trait Engine: Sync {
         records: &mut [Record],
     ) -> Result<Answer, Refusal>;
 
+    /// All orderings: how many there are. A shell that lists none leaves it.
+    fn orderings(&self, store: &[u32], query: &[u8], scratch: &mut [u32], words: &mut [u32]) -> Result<u64, Refusal> {
+        let _ = (store, query, scratch, words);
+        Err(Refusal(32))
+    }
+
     /// One page of a list: how many there are. A shell that prints no pages leaves it.
     fn page(&self, list: &[u32], width: usize, rows: usize, page: u64, bytes: &mut [u8]) -> Result<u64, Refusal> {
         let _ = (list, width, rows, page, bytes);
@@ -76,6 +82,9 @@ pub const MAX_OPERATORS: usize = 31;
 
 /// A drawn plan has no more bytes than this.
 pub const MAX_DRAWN_BYTES: usize = 6;
+
+/// As many words serve every list of orderings.
+pub const MAX_ORDERING_WORDS: usize = 864;
 
 /// Scratch or a list longer than this counts as this long.
 pub const MAX_WORDS: usize = 1 << 30;

@@ -20,6 +20,7 @@ pub fn explain(engine: &dyn Engine, loaded: &Loaded, found: &Found, memory: usiz
         Origin::Given => "the plan of the text",
         Origin::Picked => "the plan that was picked",
         Origin::Drawn | Origin::Instead(_) => "a plan that the engine drew",
+        Origin::Cheapest => "the cheapest plan of one scan and extends",
     };
     let _ = writeln!(out, "{}: {} by {from}, cost {}", pattern.title(), places(found.places()), found.cost);
     if let Some(sentence) = instead(found) {
@@ -51,7 +52,7 @@ pub fn explain(engine: &dyn Engine, loaded: &Loaded, found: &Found, memory: usiz
             beside(&mut out, document, found, "picked", estimate.as_ref(), &picked);
         }
     }
-    if found.origin == Origin::Given || found.origin == Origin::Picked {
+    if matches!(found.origin, Origin::Given | Origin::Picked | Origin::Cheapest) {
         if let Some(drawn) = loaded.estimate(&query, &loaded.draw(engine, &query)?) {
             beside(&mut out, document, found, "drawn", estimate.as_ref(), &drawn);
         }
@@ -179,7 +180,7 @@ pub fn tree(document: &Document, found: &Found) -> String {
     pile.iter().flatten().map(|line| format!("{line}\n")).collect()
 }
 
-const BAR: u64 = 24;
+pub(crate) const BAR: u64 = 24;
 
 fn bars(out: &mut String, document: &Document, found: &Found, estimate: Option<&Picked>) {
     let names: Vec<String> = found.plan.operators.iter().map(|&o| document.operator(found.pattern, o)).collect();
@@ -212,7 +213,7 @@ fn bars(out: &mut String, document: &Document, found: &Found, estimate: Option<&
 }
 
 /// A bar in proportion to the most; what is not nothing has one sign at least.
-fn bar(value: u64, most: u64) -> String {
+pub(crate) fn bar(value: u64, most: u64) -> String {
     if value == 0 {
         return String::new();
     }

@@ -14,6 +14,7 @@ pub mod kinds;
 pub mod names;
 pub mod names_file;
 pub mod near;
+pub mod orderings;
 pub mod packed;
 pub mod packing;
 pub mod picker;

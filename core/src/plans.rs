@@ -6,6 +6,7 @@ use crate::document::Pattern;
 use crate::engine::{Engine, First, Refusal, MAX_DRAWN_BYTES, MAX_WORDS};
 use crate::failure::Failure;
 use crate::find::{Loaded, Options};
+use crate::orderings::cheapest;
 use crate::picker::{self, Picked, Statistics};
 
 /// Which plan a run takes.
@@ -19,6 +20,8 @@ pub enum Choice {
     Picked,
     /// The engine's drawn plan.
     Drawn,
+    /// Of all plans of one scan and extends that of the least cost, the first of them.
+    Cheapest,
 }
 
 /// Where the plan of a run is from.
@@ -27,6 +30,7 @@ pub enum Origin {
     Given,
     Picked,
     Drawn,
+    Cheapest,
     /// Drawn, since the engine refused the picked one, or there was none.
     Instead(Option<Refusal>),
 }
@@ -38,6 +42,7 @@ impl Origin {
             Origin::Given => "given",
             Origin::Picked => "picked",
             Origin::Drawn => "drawn",
+            Origin::Cheapest => "cheapest",
             Origin::Instead(_) => "drawn instead of picked",
         }
     }
@@ -114,6 +119,11 @@ impl Loaded<'_> {
         };
         match (choice, &pattern.plan) {
             (Choice::Drawn, _) => self.drawn(engine, query, Origin::Drawn),
+            (Choice::Cheapest, _) => {
+                let orderings = self.orderings(engine, query, options.memory)?;
+                let bytes = cheapest(&orderings).map(|ordering| ordering.plan.to_bytes()).unwrap_or_default();
+                Ok(Planned { bytes, origin: Origin::Cheapest, estimate: None })
+            }
             (Choice::Given, Some(plan)) => match &pattern.plan_fault {
                 Some(fault) => Err(Failure::At(Box::new(fault.clone()))),
                 None => Ok(Planned { bytes: plan.to_bytes(), origin: Origin::Given, estimate: None }),

@@ -4,6 +4,12 @@
 use crate::sys::{self, Record};
 use crate::Refusal;
 
+/// The most vertices that a query may have whose orderings are listed.
+pub const MAX_ORDERING_VERTICES: usize = 5;
+
+/// As many words serve every list of orderings: 144 entries of 6.
+pub const MAX_ORDERING_WORDS: usize = 864;
+
 /// Scratch or a match list longer than this counts as this long, and the rest of it is untouched.
 pub const MAX_WORDS: usize = 1 << 30;
 
@@ -150,6 +156,32 @@ impl Bounds {
     pub fn below_cap(&self) -> bool {
         [self.list_words, self.scratch_words, self.cost, self.largest].iter().all(|&number| number < MAX_WORDS as u64)
     }
+}
+
+/// Lists every accepted plan of one scan and extends of a query of at most [`MAX_ORDERING_VERTICES`] vertices, with its cost: n + 1 words
+/// each, the scan's index, the vertices in turn, the cost's high word, its low word. Answers how many they are; [`MAX_ORDERING_WORDS`]
+/// words are always enough.
+///
+/// Each ordering is run once with the cache on, its rows counted and not listed; the first that the scratch is too short for refuses all.
+/// Refused, the words are untouched; listed, those past the last entry are. The scratch, up to [`MAX_WORDS`], is zero afterwards.
+pub fn orderings_into(store: &[u32], query: &[u8], scratch: &mut [u32], words: &mut [u32]) -> Result<usize, Refusal> {
+    let mut plans = 0;
+    // SAFETY: each pointer and length are those of one slice, and the number is a local. Scratch and words are borrowed alone.
+    let number = unsafe {
+        sys::rizhavaan_orderings(
+            store.as_ptr(),
+            store.len(),
+            query.as_ptr(),
+            query.len(),
+            scratch.as_mut_ptr(),
+            scratch.len(),
+            words.as_mut_ptr(),
+            words.len(),
+            &mut plans,
+        )
+    };
+    accepted(number)?;
+    Ok(size(plans))
 }
 
 /// Bounds a plan over a store, without a run. `rizhavaan.h` has the rules.

@@ -65,16 +65,18 @@ compile_error!("the static library is for x86-64 Linux");
 
 mod engine;
 mod operator;
+mod orderings;
 mod refusal;
 mod sheet;
 mod store;
 pub mod sys;
 
 pub use engine::{
-    apply_changes_into, bounds, check_plan, draw_plan_into, load_into, page_into, run, Bounds, Cache, Loaded, Run,
-    MAX_DRAWN_BYTES, MAX_OPERATORS, MAX_WORDS, PAGE_BYTES,
+    apply_changes_into, bounds, check_plan, draw_plan_into, load_into, orderings_into, page_into, run, Bounds, Cache,
+    Loaded, Run, MAX_DRAWN_BYTES, MAX_OPERATORS, MAX_ORDERING_VERTICES, MAX_ORDERING_WORDS, MAX_WORDS, PAGE_BYTES,
 };
 pub use operator::{operators, Operator, Work};
+pub use orderings::{PlanOrder, PlanOrders};
 pub use refusal::Refusal;
 pub use sheet::Pages;
 pub use store::{Buffers, Matches, Store};

@@ -55,13 +55,15 @@ refusals! {
     ChangesEdge = 28, "a change adds an edge that is there, or takes one away that is not";
     ChangesMany = 29, "the changes would make more than 1,048,575 edges";
     RunNumbers = 30, "a number that the run would answer or record is above 18,446,744,073,709,551,615";
+    OrderingsLarge = 31, "the query has more than 5 vertices";
+    OrderingsWords = 32, "the words are too few for all orderings";
     SheetRows = 33, "a row has not 2 to 8 words, the rows are too many or too many for their list, or a word is above 65,535";
     SheetPage = 34, "the page is not 1 to the page count";
     SheetBytes = 35, "the bytes are fewer than a page's";
 }
 
 impl Refusal {
-    /// Its number, 1 to 30 or 33 to 35; none has 23, which is not used again.
+    /// Its number, 1 to 35; none has 23, which is not used again.
     pub fn number(self) -> u32 {
         self as u32
     }

@@ -68,6 +68,22 @@ extern "C" {
         bytes: *mut u64,
     ) -> u32;
 
+    /// All orderings. See `rizhavaan.h`.
+    ///
+    /// # Safety
+    /// As for [`rizhavaan_load`].
+    pub fn rizhavaan_orderings(
+        store: *const u32,
+        store_len: usize,
+        query: *const u8,
+        query_len: usize,
+        scratch: *mut u32,
+        scratch_len: usize,
+        words: *mut u32,
+        words_len: usize,
+        plans: *mut u64,
+    ) -> u32;
+
     /// Bounds. See `rizhavaan.h`.
     ///
     /// # Safety

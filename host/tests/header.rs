@@ -1,5 +1,7 @@
 //! The header for C has the wrapper's numbers: the refusals, each by its name, and the limits.
-use rizhavaan::{Refusal, MAX_DRAWN_BYTES, MAX_OPERATORS, MAX_WORDS, PAGE_BYTES};
+use rizhavaan::{
+    Refusal, MAX_DRAWN_BYTES, MAX_OPERATORS, MAX_ORDERING_VERTICES, MAX_ORDERING_WORDS, MAX_WORDS, PAGE_BYTES,
+};
 use std::collections::BTreeMap;
 
 const HEADER: &str = include_str!("../../crates/rizhavaan/include/rizhavaan.h");
@@ -37,6 +39,8 @@ fn every_limit() {
     let limits = [
         ("MAX_OPERATORS", MAX_OPERATORS),
         ("MAX_DRAWN_BYTES", MAX_DRAWN_BYTES),
+        ("MAX_ORDERING_VERTICES", MAX_ORDERING_VERTICES),
+        ("MAX_ORDERING_WORDS", MAX_ORDERING_WORDS),
         ("MAX_WORDS", MAX_WORDS),
         ("PAGE_BYTES", PAGE_BYTES),
     ];

@@ -97,7 +97,7 @@ module _ (g : Graph) (q : Query) (sized : Sized q) where
   pub length-order : length (extendOrder g q) ≡ q .vertices - 2
   length-order = length-extends q (scanned g q) (q .vertices - 2)
 
-  order-below : all (λ (v : ℕ). ltb v (q .vertices)) (extendOrder g q) ≡ true
+  pub order-below : all (λ (v : ℕ). ltb v (q .vertices)) (extendOrder g q) ≡ true
   order-below = extends-below q (omega (arith, sized .at-least)) (scanned g q) (q .vertices - 2)
 
   order-low : all (λ (v : ℕ). ltb v 8) (extendOrder g q) ≡ true
@@ -140,7 +140,7 @@ module _ (g : Graph) (q : Query) (sized : Sized q) where
         let p : proper (q .vertices) e ≡ true = all-getD (proper (q .vertices)) (q .edges) (scanEdge g q) _ scan-below ok in
         count-ends e (q .vertices) (proper-source (q .vertices) e p) (proper-target (q .vertices) e p) (proper-ends (q .vertices) e p)
 
-    drawn-rules : rulesFault q [] (drawnOperators g q) ≡ 0
+    pub drawn-rules : rulesFault q [] (drawnOperators g q) ≡ 0
     unfolding rulesFault ruleFault covered
     drawn-rules =
         first-cons _ _ refl

@@ -57,7 +57,7 @@ module _ (q : Query) (S : VertexSet) where
 -- ---- vertices covered
 
 -- A list of which as many elements pass as it has.
-count-full : {A : Type 0} (p : A → Bool) (xs : List A) → countIf p xs ≡ length xs → all p xs ≡ true
+pub count-full : {A : Type 0} (p : A → Bool) (xs : List A) → countIf p xs ≡ length xs → all p xs ≡ true
 unfolding countIf all
 count-full p [] e = refl
 count-full p (x ∷ xs) e = go (p x) refl (count-full p xs)
@@ -73,7 +73,7 @@ count-one v n h =
     ∙ count-range-one (λ (w : ℕ). true) v n ∙ rw (lt-ltb v n h)
 
 -- One more vertex.
-count-plus : (v n : ℕ) (S : VertexSet) → v < n → S v ≡ false → countIf (plus v S) (range n) ≡ 1 + countIf S (range n)
+pub count-plus : (v n : ℕ) (S : VertexSet) → v < n → S v ≡ false → countIf (plus v S) (range n) ≡ 1 + countIf S (range n)
 count-plus v n S h e =
     count-sum (plus v S) (λ (w : ℕ). eqb w v) S (range n)
     (λ w. bit-or (eqb w v) (S w) (λ t u. clash u (ap S (eqb-true w v t) ∙ e)))

@@ -1,4 +1,5 @@
-/* Subgraph matching: load a packed graph or change a loaded one, check or draw a plan, run it, print its rows.
+/* Subgraph matching: load a packed graph or change a loaded one, check or draw a plan or list all orderings, run it, print
+ * its rows.
  * Link librizhavaan.a.
  *
  * Every function returns 0, or the number of a refusal (below). After a refusal every number that a pointer
@@ -9,8 +10,8 @@
  *  - a pointer with a length points to that many bytes, words or records, which may be read, and written where
  *    it is not const;
  *  - no pointer is null, also where the length is 0, and each is aligned as its type asks;
- *  - what is written (store, drawn plan, scratch, list, records, page, the single numbers) overlaps nothing else
- *    that is passed;
+ *  - what is written (store, drawn plan, scratch, list, records, words, page, the single numbers) overlaps nothing
+ *    else that is passed;
  *  - a bool is true or false.
  *
  * Nothing is kept between calls, and no function allocates, waits or prints: calls on different buffers may run
@@ -56,6 +57,10 @@ extern "C" {
 /* As many bytes serve every plan that is drawn. */
 #define RIZHAVAAN_MAX_DRAWN_BYTES 6
 
+/* Patterns of more vertices have no list of orderings; and as many words serve every list. */
+#define RIZHAVAAN_MAX_ORDERING_VERTICES 5
+#define RIZHAVAAN_MAX_ORDERING_WORDS 864
+
 /* A scratch or a match list of more words counts as one of this many, and the rest of it is untouched. */
 #define RIZHAVAAN_MAX_WORDS 1073741824
 
@@ -100,6 +105,8 @@ enum rizhavaan_refusal {
     RIZHAVAAN_CHANGES_MANY = 29,   /* the edited graph has more than 1,048,575 edges */
     RIZHAVAAN_RUN_NUMBERS = 30,    /* a number that the run would give or record is above 18,446,744,073,709,551,615:
                                       after 20, before 21 */
+    RIZHAVAAN_ORDERINGS_LARGE = 31, /* the query has more than 5 vertices: after its own refusals, before 19 */
+    RIZHAVAAN_ORDERINGS_WORDS = 32, /* the words are too few for all orderings: after 19, before 20 */
     RIZHAVAAN_SHEET_ROWS = 33,     /* n is not 2 to 8, there are more than 536,870,912 rows, the list is too short for
                                       its rows, or one of their words is above 65,535, on whatever page */
     RIZHAVAAN_SHEET_PAGE = 34,     /* the page is not 1 to the page count */
@@ -159,6 +166,19 @@ uint32_t rizhavaan_bounds(const uint32_t *store, size_t store_len,
                           const uint8_t *plan, size_t plan_len,
                           uint64_t *list_words, uint64_t *scratch_words,
                           uint64_t *cost, uint64_t *largest);
+/* Lists every accepted plan of one scan and extends of a query of at most RIZHAVAAN_MAX_ORDERING_VERTICES vertices, each
+ * with its cost with the cache on, and gives their number. Refusals 6 to 11, 25, 26, 31, 19 and 32, then 20 or 30 of the
+ * first ordering that rizhavaan_run, with the cache on and a list long enough, would refuse in this scratch.
+ *
+ * An entry is n + 1 words: the scan's index, the n - 2 extended vertices in turn, the cost's high word, its low word. The
+ * entries ascend by these numbers; the plan that rizhavaan_draw_plan draws is among them. RIZHAVAAN_MAX_ORDERING_WORDS
+ * words are always enough. Rows are counted and not listed, and each ordering is run once. Refused, the words are
+ * untouched; listed, those past the last entry are. The scratch is zero afterwards, as by a run. */
+uint32_t rizhavaan_orderings(const uint32_t *store, size_t store_len,
+                             const uint8_t *query, size_t query_len,
+                             uint32_t *scratch, size_t scratch_len,
+                             uint32_t *words, size_t words_len,
+                             uint64_t *plans);
 
 /* Runs a plan over a store, and gives the number of rows, the cost, and the sums of build rows and probe rows over
  * all joins. Refusals 6 to 22, 25, 26 and 30: those of the plan, then 22, 19, 20, 30 and 21.

@@ -174,6 +174,45 @@ pub fn draw_plan(r: &Random, store: &[u32], query: &[u8], room: usize) -> (u32, 
     (refusal, after)
 }
 
+/// All orderings into so many words, which hold arbitrary ones: the refusal, the number of plans and their words. The words past them stay, and
+/// the scratch is zero.
+pub fn orderings(r: &Random, store: &[u32], query: &[u8], scratch: usize, room: usize) -> (u32, u64, Vec<u32>) {
+    let (store, query) = (words(r, store), bytes(r, query));
+    let before = r.words(scratch);
+    let mut work = words(r, &before);
+    let contents = r.words(room);
+    let mut list = words(r, &contents);
+    let mut numbers = Numbers::<1>::new(r);
+    let [plans] = numbers.pointers();
+    // SAFETY: as above.
+    let refusal = unsafe {
+        sys::rizhavaan_orderings(
+            store.pointer(),
+            store.len(),
+            query.pointer(),
+            query.len(),
+            work.pointer_mut(),
+            work.len(),
+            list.pointer_mut(),
+            list.len(),
+            plans,
+        )
+    };
+    store.assert_untouched("store");
+    query.assert_untouched("query");
+    assert!(work.contents("scratch").iter().all(|&word| word == 0), "the scratch is not zero");
+    let [plans] = numbers.after(refusal);
+    if refusal != 0 {
+        list.assert_untouched("words");
+        return (refusal, plans, Vec::new());
+    }
+    let mut after = list.contents("words");
+    let used = plans as usize * (1 + usize::from(query.contents("query")[0] >> 4));
+    assert_eq!(after[used..], contents[used..], "words past the last entry are changed");
+    after.truncate(used);
+    (refusal, plans, after)
+}
+
 /// Bounds: the refusal, and list words, scratch words, cost and largest.
 pub fn bounds(r: &Random, store: &[u32], query: &[u8], plan: &[u8]) -> (u32, [u64; 4]) {
     let (store, query, plan) = (words(r, store), bytes(r, query), bytes(r, plan));

@@ -14,6 +14,7 @@ pub mod hangs;
 pub mod in_words;
 pub mod lengths;
 pub mod matcher;
+pub mod orderings;
 pub mod plan;
 pub mod program;
 pub mod query;
