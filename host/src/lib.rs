@@ -41,6 +41,10 @@
 //! // Without a plan: one is drawn, here the same.
 //! assert_eq!(store.draw_plan(&query)?, plan);
 //! assert_eq!(store.run_drawn(&query, Cache::On, &mut buffers)?.len(), 2);
+//! // All plans of one scan and extends, with their costs; the first is the same again.
+//! let costs: Vec<u64> = store.orderings(&query)?.map(|order| order.cost).collect();
+//! assert_eq!(costs, [13, 18, 13]);
+//! assert_eq!(store.orderings(&query)?.next().map(|order| order.plan()), Some(plan.to_vec()));
 //!
 //! // One change: the edge 1→2 is taken away, and with it both triangles. The old store stays as it is.
 //! let changed = store.changed(&[0x00, 0x00, 0x10, 0x00, 0x08, 0x08, 0x00, 0x10])?;
