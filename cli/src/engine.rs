@@ -10,6 +10,10 @@ fn refused(refusal: library::Refusal) -> Refusal {
     Refusal(refusal.number())
 }
 
+fn answer(run: library::Run) -> Answer {
+    Answer { rows: run.rows as u64, cost: run.cost, build: run.build, probe: run.probe }
+}
+
 impl Engine for Library {
     fn load(&self, file: &[u8], store: &mut [u32]) -> Result<(u64, u64), Refusal> {
         let loaded = library::load_into(file, store).map_err(refused)?;
@@ -39,6 +43,11 @@ impl Engine for Library {
         library::page_into(list, width, rows, page as usize, bytes).map(|pages| pages as u64).map_err(refused)
     }
 
+    fn count(&self, store: &[u32], query: &[u8], plan: &[u8], scratch: &mut [u32]) -> Option<Result<Answer, Refusal>> {
+        let counted = library::count(store, query, plan, Cache::On, scratch);
+        Some(counted.map(|counted| answer(counted.run)).map_err(refused))
+    }
+
     fn run(
         &self,
         store: &[u32],
@@ -53,6 +62,6 @@ impl Engine for Library {
         for (record, lent) in records.iter_mut().zip(lent) {
             *record = Record { rows: lent.rows, cost: lent.cost };
         }
-        Ok(Answer { rows: ran.rows as u64, cost: ran.cost, build: ran.build, probe: ran.probe })
+        Ok(answer(ran))
     }
 }

@@ -25,7 +25,7 @@ pub fn explain(arguments: &Explain) -> Result<u8> {
     let options = options(&arguments.how, true);
     let mut all = Vec::new();
     for pattern in patterns {
-        let found = read.explain(loaded.find(&Library, pattern, &options))?;
+        let found = read.explain(loaded.find_recorded(&Library, pattern, &options))?;
         all.push(read.explain(explain::explain(&Library, &loaded, &found, options.memory))?);
         if arguments.orderings {
             all.push(read.explain(orderings::plot(&Library, &loaded, &found, options.memory))?);

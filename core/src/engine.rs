@@ -67,6 +67,12 @@ pub trait Engine: Sync {
         Err(Refusal(32))
     }
 
+    /// Count, with the cache on: what a run would answer, in a scratch alone. A shell that lists every row leaves it.
+    fn count(&self, store: &[u32], query: &[u8], plan: &[u8], scratch: &mut [u32]) -> Option<Result<Answer, Refusal>> {
+        let _ = (store, query, plan, scratch);
+        None
+    }
+
     /// One page of a list: how many there are. A shell that prints no pages leaves it.
     fn page(&self, list: &[u32], width: usize, rows: usize, page: u64, bytes: &mut [u8]) -> Result<u64, Refusal> {
         let _ = (list, width, rows, page, bytes);
@@ -105,7 +111,7 @@ pub enum NoRun {
     },
 }
 
-/// A run that was accepted.
+/// A run that was accepted, or counted: then list and records are empty.
 #[derive(Clone, Debug)]
 pub struct Ran {
     pub answer: Answer,
@@ -172,6 +178,32 @@ pub fn run_growing(
         // A new buffer and not a resized one: what it held is of no use.
         *grown = Vec::new();
         *grown = vec![0; words];
+    }
+}
+
+/// Counts what a run would answer, in a scratch that grows within so many bytes: a run without list and records. None where the engine does
+/// not count.
+pub fn count_growing(
+    engine: &dyn Engine,
+    store: &[u32],
+    query: &[u8],
+    plan: &[u8],
+    memory: usize,
+    first: First,
+) -> Option<Result<Ran, NoRun>> {
+    let mut scratch = vec![0; first.within(memory).scratch];
+    loop {
+        match engine.count(store, query, plan, &mut scratch)? {
+            Ok(answer) => return Some(Ok(Ran { answer, list: Vec::new(), records: Vec::new() })),
+            Err(Refusal(20)) if scratch.len() < MAX_WORDS => {}
+            Err(refusal) => return Some(Err(NoRun::Refused(refusal))),
+        }
+        let words = grow(scratch.len(), 0, memory);
+        if words <= scratch.len() {
+            return Some(Err(NoRun::Memory { scratch: scratch.len(), list: 0 }));
+        }
+        scratch = Vec::new();
+        scratch.resize(words, 0);
     }
 }
 

@@ -3,7 +3,7 @@
 use std::borrow::Cow;
 
 use crate::document::{Document, Hang, Pattern};
-use crate::engine::{run_growing, store_words, Engine, Ran, Record, PAGE_BYTES};
+use crate::engine::{count_growing, run_growing, store_words, Engine, Ran, Record, PAGE_BYTES};
 use crate::failure::Failure;
 use crate::packed::edge::Edge;
 use crate::packed::graph::Graph;
@@ -23,7 +23,7 @@ pub struct Options {
     pub once: bool,
     /// Bytes that scratch and list may take together.
     pub memory: usize,
-    /// The rows are not listed, only counted, and need no test.
+    /// The rows need no test, only their number is wanted. Where the engine counts, they are not listed, and there are no records.
     pub count_only: bool,
 }
 
@@ -58,6 +58,8 @@ pub struct Found<'d> {
     pub origin: Origin,
     /// What was thought of a picked plan before it ran.
     pub estimate: Option<Picked>,
+    /// How many rows there are.
+    places: usize,
     pub rows: Vec<u32>,
     pub cost: u64,
     pub build: u64,
@@ -72,7 +74,7 @@ impl Found<'_> {
 
     /// How many rows there are.
     pub fn places(&self) -> usize {
-        self.rows.len() / self.width()
+        self.places
     }
 
     /// A page of the rows, as they are printed by numbers, and how many pages there are.
@@ -151,6 +153,26 @@ impl<'d> Loaded<'d> {
 
     /// Finds the places of a pattern, and tests them.
     pub fn find<'p>(&self, engine: &dyn Engine, pattern: &'p Pattern, options: &Options) -> Result<Found<'p>, Failure> {
+        self.find_by(engine, pattern, options, options.count_only)
+    }
+
+    /// Finds the places of a pattern, always by a run, which records what each operator did.
+    pub fn find_recorded<'p>(
+        &self,
+        engine: &dyn Engine,
+        pattern: &'p Pattern,
+        options: &Options,
+    ) -> Result<Found<'p>, Failure> {
+        self.find_by(engine, pattern, options, false)
+    }
+
+    fn find_by<'p>(
+        &self,
+        engine: &dyn Engine,
+        pattern: &'p Pattern,
+        options: &Options,
+        counts: bool,
+    ) -> Result<Found<'p>, Failure> {
         if let Some(fault) = &pattern.fault {
             return Err(Failure::At(Box::new(fault.clone())));
         }
@@ -158,10 +180,10 @@ impl<'d> Loaded<'d> {
         let query_bytes = query.to_bytes();
         verify::query(&query_bytes, &query).map_err(Failure::Check)?;
         let mut planned = self.planned(engine, pattern, &query_bytes, options)?;
-        let mut ran = self.run(engine, &query, &query_bytes, &planned, options.memory);
+        let mut ran = self.run(engine, &query, &query_bytes, &planned, options.memory, counts);
         if let Some(origin) = instead(&planned, &ran) {
             planned = self.drawn(engine, &query_bytes, origin)?;
-            ran = self.run(engine, &query, &query_bytes, &planned, options.memory);
+            ran = self.run(engine, &query, &query_bytes, &planned, options.memory, counts);
         }
         let (plan, ran) = ran?;
         if !options.count_only {
@@ -173,12 +195,13 @@ impl<'d> Loaded<'d> {
             pattern,
             added,
             images,
-            records: ran.records[..plan.operators.len()].to_vec(),
+            records: ran.records.into_iter().take(plan.operators.len()).collect(),
             query,
             plan,
             plan_bytes: planned.bytes,
             origin: planned.origin,
             estimate: planned.estimate,
+            places: ran.answer.rows as usize,
             rows: ran.list,
             cost: ran.answer.cost,
             build: ran.answer.build,
@@ -186,7 +209,7 @@ impl<'d> Loaded<'d> {
         })
     }
 
-    /// Runs a plan that unpacks.
+    /// Runs a plan that unpacks, or counts its rows where they are only counted.
     fn run(
         &self,
         engine: &dyn Engine,
@@ -194,10 +217,17 @@ impl<'d> Loaded<'d> {
         query_bytes: &[u8],
         planned: &Planned,
         memory: usize,
+        counts: bool,
     ) -> Result<(Plan, Ran), Failure> {
         let plan = verify::plan(&planned.bytes, query).map_err(Failure::Check)?;
         let width = query.vertices.len();
-        let ran = run_growing(engine, &self.store, query_bytes, &planned.bytes, width, memory, planned.first());
+        let (store, plan_bytes, first) = (&self.store, &planned.bytes, planned.first());
+        let counted = match counts {
+            true => count_growing(engine, store, query_bytes, plan_bytes, memory, first),
+            false => None,
+        };
+        let ran =
+            counted.unwrap_or_else(|| run_growing(engine, store, query_bytes, plan_bytes, width, memory, first));
         Ok((plan, ran.map_err(|no_run| Failure::run(no_run, memory))?))
     }
 }

@@ -206,6 +206,43 @@ pub fn bounds(store: &[u32], query: &[u8], plan: &[u8]) -> Result<Bounds, Refusa
     Ok(Bounds { list_words, scratch_words, cost, largest })
 }
 
+/// What a run would answer, and the words of scratch that it needs.
+#[derive(Clone, Copy, Debug, PartialEq, Eq)]
+pub struct Count {
+    /// The answer of a run in a scratch of `need` words or more, a list of as many words a row as the query has vertices, and enough records.
+    pub run: Run,
+    /// The need: with fewer words of scratch a run is refused ([`Refusal::ScratchSmall`]).
+    pub need: usize,
+}
+
+/// Counts what a run of a plan over a store would answer, without a list or records. `rizhavaan.h` has what that tells of a run.
+///
+/// The scratch is as in [`run`]: too short, the count is refused, and it is zero afterwards in both cases.
+pub fn count(store: &[u32], query: &[u8], plan: &[u8], cache: Cache, scratch: &mut [u32]) -> Result<Count, Refusal> {
+    let (mut rows, mut cost, mut build, mut probe, mut need) = (0, 0, 0, 0, 0);
+    // SAFETY: each pointer and length are those of one slice, and the numbers are locals. The scratch is borrowed alone.
+    let number = unsafe {
+        sys::rizhavaan_count(
+            store.as_ptr(),
+            store.len(),
+            query.as_ptr(),
+            query.len(),
+            plan.as_ptr(),
+            plan.len(),
+            cache == Cache::On,
+            scratch.as_mut_ptr(),
+            scratch.len(),
+            &mut rows,
+            &mut cost,
+            &mut build,
+            &mut probe,
+            &mut need,
+        )
+    };
+    accepted(number)?;
+    Ok(Count { run: Run { rows: size(rows), cost, build, probe }, need: size(need) })
+}
+
 /// Runs a plan over a store: the rows are the list's first words, as many a row as the query has vertices, no two the same. The
 /// first records are those of the plan's operators, in its order; there must be one for each.
 ///

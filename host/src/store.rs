@@ -1,7 +1,7 @@
 //! A store that owns its words, and buffers that grow.
 use crate::operator::Operators;
-use crate::{apply_changes_into, bounds, draw_plan_into, load_into, run};
-use crate::{Bounds, Cache, Record, Refusal, Run, Work, MAX_DRAWN_BYTES, MAX_OPERATORS, MAX_WORDS};
+use crate::{apply_changes_into, bounds, count, draw_plan_into, load_into, run};
+use crate::{Bounds, Cache, Count, Record, Refusal, Run, Work, MAX_DRAWN_BYTES, MAX_OPERATORS, MAX_WORDS};
 
 /// A loaded graph: the words that the engine reads.
 #[derive(Clone, Debug, PartialEq, Eq)]
@@ -99,6 +99,17 @@ impl Store {
         bounds(&self.words, query, plan)
     }
 
+    /// Counts what a run of a plan would answer, in a scratch of the caller's, whose length decides whether it is refused: the matches, what it
+    /// takes to find them, and the scratch that a run needs. Nothing is listed.
+    pub fn count(&self, query: &[u8], plan: &[u8], cache: Cache, scratch: &mut [u32]) -> Result<Count, Refusal> {
+        count(&self.words, query, plan, cache, scratch)
+    }
+
+    /// The same in a scratch that grows as far as it is needed.
+    pub fn count_in(&self, query: &[u8], plan: &[u8], cache: Cache, buffers: &mut Buffers) -> Result<Count, Refusal> {
+        self.count_growing(query, plan, cache, &mut buffers.scratch)
+    }
+
     /// Runs a query by a plan that is drawn for it, in buffers that grow, as [`Store::run_growing`] does.
     pub fn run_drawn<'b>(&self, query: &[u8], cache: Cache, buffers: &'b mut Buffers) -> Result<Matches<'b>, Refusal> {
         buffers.plan = self.draw_plan(query)?;
@@ -121,12 +132,12 @@ impl Store {
         Ok(Matches::new(query, plan, answer, list, records))
     }
 
-    /// Runs a plan in buffers that grow until it fits, up to [`MAX_WORDS`] words each; they keep their size for the next run. Buffers
-    /// of no words begin at the plan's bounds where these are at most 1,048,576 words, so that such a run is made once.
+    /// Runs a plan in buffers that grow to what it takes, up to [`MAX_WORDS`] words each; they keep their size for the next run. Buffers
+    /// of no words begin at the plan's bounds where these are at most 1,048,576 words, so that such a run is made at once. Where there is
+    /// no list, or one that the rows do not fit, they are counted, and the run is made in a list that they fit.
     ///
-    /// A run that is refused for want of room is made again from its start: with twice the scratch, which a run needs little of and which
-    /// is refused as soon as the need passes it; or with eight times the list, whose want is told only after all rows are counted. What a
-    /// list has too many takes no memory, as long as nothing was written there.
+    /// A scratch that is too short is made twice as long, as often as it takes: a run needs little of it, and is refused as soon as the need
+    /// passes it.
     pub fn run_growing<'b>(
         &self,
         query: &[u8],
@@ -153,31 +164,70 @@ impl Store {
             set_aside(scratch, bounds.scratch_words);
             set_aside(list, bounds.list_words);
         }
+        if list.is_empty() {
+            self.fit_list(query, plan, cache, scratch, list)?;
+        }
         loop {
             match run(&self.words, query, plan, cache, scratch, list, records) {
-                Err(Refusal::ScratchSmall) if scratch.len() < MAX_WORDS => grow(scratch, 2),
-                Err(Refusal::ListSmall) if list.len() < MAX_WORDS => grow(list, 8),
+                Err(Refusal::ScratchSmall) if scratch.len() < MAX_WORDS => twice(scratch),
+                Err(Refusal::ListSmall) if list.len() < MAX_WORDS => self.fit_list(query, plan, cache, scratch, list)?,
+                answer => return answer,
+            }
+        }
+    }
+
+    /// A list that the rows of a run fit, by counting them: refused where none is long enough.
+    fn fit_list(
+        &self,
+        query: &[u8],
+        plan: &[u8],
+        cache: Cache,
+        scratch: &mut Vec<u32>,
+        list: &mut Vec<u32>,
+    ) -> Result<(), Refusal> {
+        let rows = self.count_growing(query, plan, cache, scratch)?.run.rows;
+        match rows.saturating_mul(width(query)) {
+            words if words <= MAX_WORDS => Ok(at_least(list, words)),
+            _ => Err(Refusal::ListSmall),
+        }
+    }
+
+    fn count_growing(&self, query: &[u8], plan: &[u8], cache: Cache, scratch: &mut Vec<u32>) -> Result<Count, Refusal> {
+        loop {
+            match count(&self.words, query, plan, cache, scratch) {
+                Err(Refusal::ScratchSmall) if scratch.len() < MAX_WORDS => twice(scratch),
                 answer => return answer,
             }
         }
     }
 }
 
+/// How many words a row has: the number of the query's vertices, the first 4 bits of its file.
+fn width(query: &[u8]) -> usize {
+    usize::from(query[0] >> 4)
+}
+
 /// What a run is bounded by is set aside at once where it is little.
 const LITTLE: u64 = 1 << 20;
 
-/// At least so many words, where they are few, all of them zero if there were fewer.
+/// At least so many words, where they are few.
 fn set_aside(buffer: &mut Vec<u32>, words: u64) {
-    if (buffer.len() as u64) < words && words <= LITTLE {
-        *buffer = vec![0; words as usize];
+    if words <= LITTLE {
+        at_least(buffer, words as usize);
     }
 }
 
-/// So many times the words, all of them zero: what the buffer held is not kept.
-fn grow(buffer: &mut Vec<u32>, times: usize) {
-    let words = (times * buffer.len()).clamp(1024, MAX_WORDS);
-    *buffer = Vec::new();
-    *buffer = vec![0; words];
+/// At least so many words, all of them zero if there were fewer: what the buffer held is not kept.
+fn at_least(buffer: &mut Vec<u32>, words: usize) {
+    if buffer.len() < words {
+        *buffer = Vec::new();
+        *buffer = vec![0; words];
+    }
+}
+
+/// Twice the words.
+fn twice(buffer: &mut Vec<u32>) {
+    at_least(buffer, (2 * buffer.len()).clamp(1024, MAX_WORDS));
 }
 
 /// Scratch and list for runs, grown as they ask for it, records for the longest plan, and the plan that was drawn last.
@@ -217,9 +267,9 @@ pub struct Matches<'l> {
 }
 
 impl<'l> Matches<'l> {
-    /// Of an accepted run of a query, whose file begins with its number of vertices in 4 bits, and of a plan.
+    /// Of an accepted run of a query and a plan.
     fn new(query: &[u8], plan: &'l [u8], answer: Run, list: &'l [u32], records: &'l [Record]) -> Matches<'l> {
-        let width = usize::from(query[0] >> 4);
+        let width = width(query);
         let Run { rows, cost, build, probe } = answer;
         Matches { words: &list[..rows * width], width, plan, records, cost, build, probe }
     }

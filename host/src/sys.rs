@@ -101,6 +101,27 @@ extern "C" {
         largest: *mut u64,
     ) -> u32;
 
+    /// Count. See `rizhavaan.h`.
+    ///
+    /// # Safety
+    /// As for [`rizhavaan_load`].
+    pub fn rizhavaan_count(
+        store: *const u32,
+        store_len: usize,
+        query: *const u8,
+        query_len: usize,
+        plan: *const u8,
+        plan_len: usize,
+        cache: bool,
+        scratch: *mut u32,
+        scratch_len: usize,
+        rows: *mut u64,
+        cost: *mut u64,
+        build: *mut u64,
+        probe: *mut u64,
+        need: *mut u64,
+    ) -> u32;
+
     /// Run. See `rizhavaan.h`.
     ///
     /// # Safety

@@ -180,6 +180,22 @@ uint32_t rizhavaan_orderings(const uint32_t *store, size_t store_len,
                              uint32_t *words, size_t words_len,
                              uint64_t *plans);
 
+/* Counts what a run of a plan over a store would give, without a match list or records: the number of rows, the cost,
+ * the sums of build rows and probe rows, and the need, which 20 is told by. Refusals 6 to 20, 25, 26 and 30: those of
+ * the plan, then 19, 20 and 30.
+ *
+ * Where it is accepted, a run with the same cache whose scratch has `need` words or more, whose list has n words a row,
+ * of RIZHAVAAN_MAX_WORDS at most, and which has a record for each operator is accepted with the same four numbers, and
+ * one with a shorter scratch is refused with 20. So a list can be made that fits. The rows are found once. The scratch
+ * is as in rizhavaan_run: zero afterwards, whatever the answer. */
+uint32_t rizhavaan_count(const uint32_t *store, size_t store_len,
+                         const uint8_t *query, size_t query_len,
+                         const uint8_t *plan, size_t plan_len,
+                         bool cache,
+                         uint32_t *scratch, size_t scratch_len,
+                         uint64_t *rows, uint64_t *cost, uint64_t *build, uint64_t *probe,
+                         uint64_t *need);
+
 /* Runs a plan over a store, and gives the number of rows, the cost, and the sums of build rows and probe rows over
  * all joins. Refusals 6 to 22, 25, 26 and 30: those of the plan, then 22, 19, 20, 30 and 21.
  *

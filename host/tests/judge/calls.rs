@@ -281,6 +281,41 @@ pub struct Ran {
     pub records: Vec<Record>,
 }
 
+/// Count in a scratch of this length, which holds arbitrary words: the refusal, and rows, cost, build, probe and need. The scratch is zero
+/// afterwards.
+pub fn count(r: &Random, input: &Input, scratch: usize) -> (u32, [u64; 5]) {
+    let store = words(r, input.store);
+    let (query, plan) = (bytes(r, input.query), bytes(r, input.plan));
+    let contents = r.words(scratch);
+    let mut scratch = words(r, &contents);
+    let mut numbers = Numbers::<5>::new(r);
+    let [rows, cost, build, probe, need] = numbers.pointers();
+    // SAFETY: as above.
+    let refusal = unsafe {
+        sys::rizhavaan_count(
+            store.pointer(),
+            store.len(),
+            query.pointer(),
+            query.len(),
+            plan.pointer(),
+            plan.len(),
+            input.cache,
+            scratch.pointer_mut(),
+            scratch.len(),
+            rows,
+            cost,
+            build,
+            probe,
+            need,
+        )
+    };
+    store.assert_untouched("store");
+    query.assert_untouched("query");
+    plan.assert_untouched("plan");
+    assert!(scratch.contents("scratch").iter().all(|&word| word == 0), "the scratch is not zero");
+    (refusal, numbers.after(refusal))
+}
+
 /// Run in scratch and list of these lengths, which hold arbitrary words, with records for every plan. The scratch is zero afterwards.
 pub fn run(r: &Random, input: &Input, scratch: usize, list: usize) -> Ran {
     run_recording(r, input, scratch, list, rizhavaan::MAX_OPERATORS)
