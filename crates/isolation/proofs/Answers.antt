@@ -1,28 +1,25 @@
 -- What another company hangs cannot be seen in any answer: the theorem. Assumes nothing.
-use mathlib.Core.Path.{_≡_, refl, sym, _∙_, ap, ap₂}
-use mathlib.Core.Bool.{Bool, true, false, cond}
+use mathlib.Core.Path.{_≡_, refl, sym, _∙_, ap₂}
+use mathlib.Core.Bool.{Bool, true, false}
 use mathlib.Core.List.{List, [], _∷_}
 use Prim.Native.Nat.{ℕ}
 use lib.Dec.{eqb}
 use lib.ListN.{length}
 use borrow.Author.Tests.{eqb-true, eqb-false, ne-eqb}
-use Rattle.lists.specs.Refusal.{refuse, first}
+use Rattle.lists.specs.Refusal.{first}
 use Rattle.lists.proofs.Faults.{first-some}
-use Rattle.graph.specs.Graph.{Edge, Graph}
 use Rattle.graph.specs.Store.{graphIn, storeFault}
 use Rattle.graph.proofs.WellFormed.{WellFormed, well-formed}
 use Rattle.graph.proofs.Loads.{store-formed}
-use Rattle.query.specs.Query.{Query}
 use Rattle.query.specs.File.{queryOf, queryFault}
-use Rattle.plan.specs.Plan.{Operator}
 use Rattle.plan.specs.File.{operatorsOf, checkFault, planFault}
 use Rattle.execution.specs.declared.RunAnswer.{RunAnswer}
 use Rattle.execution.specs.declared.Record.{Record}
 use Rattle.execution.specs.Run.{runFault, runAnswer, runList, runRecords, runScratch}
 use Rattle.planner.specs.declared.DrawAnswer.{DrawAnswer}
 use Rattle.planner.specs.Draw.{drawnPlan, drawFault, drawAnswer, drawBytes}
-use Rattle.isolation.specs.Others.{names, OthersDiffer, TwoCompanies}
-use Rattle.isolation.specs.Readings.{SameReadings}
+use Rattle.isolation.specs.Others.{TwoCompanies}
+use Rattle.isolation.specs.inner.Readings.{SameReadings}
 use Rattle.isolation.specs.CannotSee.{AfterRun, afterRun, AfterDraw, afterDraw, CannotSee, NonInterference}
 use Rattle.isolation.proofs.Own.{own, own-readings}
 use Rattle.isolation.proofs.Listed.{one-list}
@@ -80,15 +77,15 @@ module _ (query : List ℕ) (refused : queryFault query ≡ 0 → ⊥) where
   refused-cannot one two =
       record {
         run = λ cache plan scratch list records. λ i.
-        after
-        ((answer-refused cache one plan (length scratch) (length list) (length records)
-        ∙ sym (answer-refused cache two plan (length scratch) (length list) (length records))) i)
-        ((list-refused cache one plan (length scratch) list (length records) ∙ sym (list-refused cache two plan (length scratch) list (length records))) i)
-        ((records-refused cache one plan (length scratch) (length list) records
-        ∙ sym (records-refused cache two plan (length scratch) (length list) records)) i)
-        (runScratch scratch);
+            after
+            ((answer-refused cache one plan (length scratch) (length list) (length records)
+            ∙ sym (answer-refused cache two plan (length scratch) (length list) (length records))) i)
+            ((list-refused cache one plan (length scratch) list (length records) ∙ sym (list-refused cache two plan (length scratch) list (length records))) i)
+            ((records-refused cache one plan (length scratch) (length list) records
+            ∙ sym (records-refused cache two plan (length scratch) (length list) records)) i)
+            (runScratch scratch);
         draw = λ bytes.
-        ap₂ drawn (drawn-refused one (length bytes) ∙ sym (drawn-refused two (length bytes))) (bytes-refused one bytes ∙ sym (bytes-refused two bytes));
+            ap₂ drawn (drawn-refused one (length bytes) ∙ sym (drawn-refused two (length bytes))) (bytes-refused one bytes ∙ sym (bytes-refused two bytes));
       }
 
 -- ---- a query file that is accepted
@@ -155,8 +152,8 @@ module _ (query one two : List ℕ) (t : TwoCompanies query one two) (e : queryF
       let stores : storeFault one ≡ storeFault two = t .one-accepted ∙ sym (t .two-accepted) in
       record {
         run = λ cache plan.
-        same-run query one two stores cache plan
-        (same-plan (queryOf query) (graphIn one) (graphIn two) (t .others e .none-any) same-own cache (operatorsOf plan));
+            same-run query one two stores cache plan
+            (same-plan (queryOf query) (graphIn one) (graphIn two) (t .others e .none-any) same-own cache (operatorsOf plan));
         draw = same-draw query one two stores (same-drawn (queryOf query) (graphIn one) (graphIn two) same-readings);
       }
 

@@ -1,7 +1,5 @@
 -- The plan that is drawn over two graphs with the same named edges is one. Assumes nothing.
 use mathlib.Core.Path.{_≡_, ap, ap₂}
-use mathlib.Core.Bool.{Bool, true, false}
-use mathlib.Core.List.{List}
 use Prim.Native.Nat.{ℕ, _-_, _<_}
 use lib.Dec.{ltb}
 use lib.ListN.{length}
@@ -14,7 +12,7 @@ use Rattle.ordering.specs.Order.{scanSize, scanEdge, extendsFrom}
 use Rattle.ordering.proofs.Choosing.{chosen-ext}
 use Rattle.planner.specs.Draw.{planBits, drawnPlan}
 use Rattle.isolation.specs.Others.{names}
-use Rattle.isolation.specs.Readings.{SameReadings}
+use Rattle.isolation.specs.inner.Readings.{SameReadings}
 use Rattle.isolation.proofs.Own.{each-named}
 
 module _ (q : Query) (g h : Graph) (same : SameReadings q g h) where

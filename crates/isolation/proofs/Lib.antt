@@ -5,3 +5,4 @@ pub mod Operators
 pub mod Plans
 pub mod Drawn
 pub mod Answers
+pub mod Worked

@@ -6,7 +6,7 @@ use Prim.Native.Nat.{ℕ, zero, suc, _/_, _%_, _≤_}
 use native.Mathlib.Omega.{arith}
 use lib.Dec.{eqb, ltb}
 use borrow.Author.Tests.{eqb-true, eq-eqb, lt-ltb, le-ltb}
-use Rattle.lists.specs.Lists.{all, any, keep, countIf, ascending}
+use Rattle.lists.specs.Lists.{all, any, ascending}
 use Rattle.lists.proofs.Tests.{clash, iff, and-l, and-r, and-both, eqb-refl}
 use Rattle.lists.proofs.All.{all-mem, mem-any, all-kept, keep-under}
 use Rattle.lists.proofs.Any.{any-count, any-map, any-keep, any-some, any-follows}

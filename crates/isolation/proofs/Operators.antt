@@ -1,15 +1,15 @@
 -- What each operator makes of a graph is what it makes of the named edges alone: rows, candidates, costs. Assumes nothing.
-use mathlib.Core.Path.{_≡_, refl, sym, _∙_, ap, ap₂, fun-ext}
+use mathlib.Core.Path.{_≡_, refl, _∙_, ap, ap₂, fun-ext}
 use mathlib.Core.Bool.{Bool, true, false, cond, _&&_}
 use mathlib.Core.List.{List, [], _∷_, _++_, map, flatMap}
 use mathlib.Core.Option.{Option, some, none}
 use Prim.Native.Nat.{ℕ, _+_}
 use lib.Dec.{eqb}
 use lib.ListN.{length}
-use Rattle.lists.specs.Lists.{_implies_, range, all, keep, total, largest}
+use Rattle.lists.specs.Lists.{_implies_, range, all, keep, largest}
 use Rattle.lists.proofs.All.{all-under, all-kept}
 use Rattle.lists.proofs.Count.{total-under}
-use Rattle.graph.specs.Graph.{Edge, Graph, forward, backward, portionLength}
+use Rattle.graph.specs.Graph.{Edge, Graph, forward, backward}
 use Rattle.query.specs.Query.{Query, VertexSet, inside, between}
 use Rattle.plan.specs.Plan.{ends}
 use Rattle.matching.specs.Row.{Assignment, pack, look, assign}

@@ -1,7 +1,6 @@
 -- The edges that a query names: what is read of a graph is read of them. Assumes nothing.
-use mathlib.Core.Path.{_≡_, refl, sym, _∙_, ap}
+use mathlib.Core.Path.{_≡_, sym, _∙_, ap, fun-ext}
 use mathlib.Core.Bool.{Bool, true, false, _&&_}
-use mathlib.Core.List.{List}
 use Prim.Native.Nat.{ℕ}
 use lib.Dec.{eqb}
 use borrow.Author.Tests.{eqb-true}
@@ -9,12 +8,12 @@ use Rattle.lists.specs.Lists.{all, any, keep, countIf}
 use Rattle.lists.proofs.Tests.{iff, clash, and-l, and-r, and-both, or-elim, eqb-refl}
 use Rattle.lists.proofs.All.{all-mem, mem-any}
 use Rattle.lists.proofs.Any.{any-keep, any-ext}
-use Rattle.lists.proofs.Count.{count-keep, count-under}
+use Rattle.lists.proofs.Count.{count-keep}
 use Rattle.graph.specs.Graph.{Edge, Graph, Direction, near, covers, linked, portionLength}
 use Rattle.query.specs.Query.{Query}
 use Rattle.ordering.specs.Order.{edgesOf}
 use Rattle.isolation.specs.Others.{names, hasEdge}
-use Rattle.isolation.specs.Readings.{SameReadings}
+use Rattle.isolation.specs.inner.Readings.{SameReadings}
 
 -- A graph with the edges that a query names alone.
 abbrev pub own : Query → Graph → Graph
@@ -42,7 +41,7 @@ module _ (q : Query) (g : Graph) (p : Edge → Bool) (h : (e : Edge) → p e ≡
   pub count-own : countIf p (own q g .edges) ≡ countIf p (g .edges)
   count-own =
       count-keep p (λ (e : Edge). names q (e .label)) (g .edges)
-      ∙ ap (λ (t : Edge → Bool). countIf t (g .edges)) (mathlib.Core.Path.fun-ext guarded)
+      ∙ ap (λ (t : Edge → Bool). countIf t (g .edges)) (fun-ext guarded)
 
 -- A label that a named one covers is named, where label 0 is not.
 module _ (q : Query) (g : Graph) (none : names q 0 ≡ false) where
@@ -76,3 +75,15 @@ own-readings q g h none e =
       portions = λ d l x n. sym (portions-own q g none d l x n) ∙ ap (λ (k : Graph). portionLength k d l x) e ∙ portions-own q h none d l x n;
       counts = λ l n. sym (counts-own q g none l n) ∙ ap (λ (k : Graph). edgesOf k l) e ∙ counts-own q h none l n;
     }
+
+-- And the same named edges: the converse of `one-list`, by which two concrete graphs are compared.
+pub own-named : (q : Query) (g h : Graph) → own q g .edges ≡ own q h .edges
+    → (s l t : ℕ) → names q l ≡ true → hasEdge g s l t ≡ hasEdge h s l t
+unfolding hasEdge
+own-named q g h e s l t n = sym (any-own q g is named) ∙ ap (any is) e ∙ any-own q h is named
+  where
+    is : Edge → Bool
+    is e = eqb (e .source) s && eqb (e .label) l && eqb (e .target) t
+
+    named : (e : Edge) → is e ≡ true → names q (e .label) ≡ true
+    named e i = ap (names q) (eqb-true (e .label) l (and-r (eqb (e .source) s) _ (and-l (eqb (e .source) s && eqb (e .label) l) _ i))) ∙ n

@@ -1,7 +1,7 @@
 -- What a plan makes of a graph is what it makes of the named edges alone: rows, need, costs, records, whether a number passes. One
 -- induction over the plan. Assumes nothing.
 use mathlib.Core.Path.{_≡_, refl, sym, _∙_, ap, ap₂}
-use mathlib.Core.Bool.{Bool, true, false}
+use mathlib.Core.Bool.{Bool, false}
 use mathlib.Core.List.{List, [], _∷_, map, flatMap}
 use Prim.Native.Nat.{ℕ, _+_}
 use lib.Dec.{ltb}
@@ -11,8 +11,7 @@ use Rattle.graph.specs.Graph.{Graph}
 use Rattle.query.specs.Query.{Query, VertexSet, edgeAt}
 use Rattle.plan.specs.Plan.{Operator, scan, extend, join, ends, plus}
 use Rattle.matching.specs.Row.{width}
-use Rattle.execution.specs.declared.Record.{Record}
-use Rattle.execution.specs.Pile.{Result, apply, pileAfter, longestSet, topRows, topNeed, costOf, buildOf, probeOf, Step, stepOf, stepsFrom}
+use Rattle.execution.specs.Pile.{Result, apply, pileAfter, topRows, topNeed, costOf, buildOf, probeOf, Step, stepOf, stepsFrom}
 use Rattle.execution.specs.Run.{planRows, planNeed, planCost, planBuild, planProbe, recordOf, planRecords, maxNumber, planNumbers, planPasses}
 use Rattle.isolation.specs.Others.{names}
 use Rattle.isolation.proofs.Own.{own}

@@ -11,7 +11,8 @@ use Rattle.planner.specs.declared.DrawAnswer.{DrawAnswer}
 use Rattle.planner.specs.Draw.{drawAnswer, drawBytes}
 use Rattle.isolation.specs.Others.{TwoCompanies}
 
--- All that a caller of Run has in hand afterwards: the answer (refusal, rows, cost, build and probe rows), the list, the records and the scratch.
+-- All that a caller of Run has in hand afterwards: the answer (refusal, rows, cost, build and probe rows), the list, the records and the
+-- scratch.
 pub record AfterRun : Type 0 where
   pub answer : RunAnswer
   pub list : List ℕ
