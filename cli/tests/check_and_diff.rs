@@ -129,6 +129,7 @@ fn the_plan_in_words() {
     let dir = rig("explain");
     let (status, out, _) = run(&dir, &["explain", "hang.txt", "rules.txt", "-p", "trusses"]);
     let expected = "trusses: 2 places by the plan that was picked, cost 0
+It reads connections of kind bolted; no other connection can change its list.
 
 1. begin with every t -bolted-> p
 
@@ -142,6 +143,28 @@ No run of it passes 4 words of list, 2 of scratch, cost 0 and 2 rows of an opera
 The drawn plan is the same.
 ";
     assert_eq!((status, out.as_str()), (0, expected));
+}
+
+/// Which kinds of connection a pattern reads: one, several, or any.
+#[test]
+fn the_kinds_that_are_read() {
+    let dir = folder("kinds");
+    let hang = "[graph]\na: truss\nb: motor\na -north-> b\na -south-> b\nb -1-> a\n[query]\nx: truss\ny: motor\n";
+    let cases = [
+        ("x -north-> y", "of kind north; no other connection can change its list."),
+        ("x -south-> y\nx -north-> y", "of the kinds north and south; no other connection can change its list."),
+        (
+            "x -south-> y\ny -1-> x\nx -north-> y",
+            "of the kinds 1, north and south; no other connection can change its list.",
+        ),
+        ("x -north-> y\nx -any-> y", "of every kind."),
+    ];
+    for (edges, sentence) in cases {
+        fs::write(dir.join("hang.txt"), format!("{hang}{edges}\n")).unwrap();
+        let (status, out, err) = run(&dir, &["explain", "hang.txt"]);
+        assert_eq!(status, 0, "{err}");
+        assert_eq!(out.lines().nth(1), Some(format!("It reads connections {sentence}").as_str()), "{edges}");
+    }
 }
 
 #[test]

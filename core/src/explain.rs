@@ -1,12 +1,13 @@
 //! A plan in words, as a drawing, and where its work went.
 
+use std::collections::BTreeSet;
 use std::fmt::Write;
 
 use crate::document::{Document, Pattern};
 use crate::engine::{meaning, Bounds, Engine};
 use crate::failure::Failure;
 use crate::find::{places, Found, Loaded};
-use crate::packed::edge::Edge;
+use crate::packed::edge::{Edge, ANY_LABEL};
 use crate::packed::plan::{Operator, Plan};
 use crate::picker::Picked;
 use crate::plans::Origin;
@@ -26,6 +27,7 @@ pub fn explain(engine: &dyn Engine, loaded: &Loaded, found: &Found, memory: usiz
     if let Some(sentence) = instead(found) {
         let _ = writeln!(out, "{sentence}");
     }
+    let _ = writeln!(out, "{}", reads(document, pattern));
     out.push('\n');
     for (i, step) in steps(document, found).iter().enumerate() {
         let _ = writeln!(out, "{}. {step}", i + 1);
@@ -58,6 +60,21 @@ pub fn explain(engine: &dyn Engine, loaded: &Loaded, found: &Found, memory: usiz
         }
     }
     Ok(out)
+}
+
+/// Which kinds of connection a pattern reads. Without one of any kind, no other can change what is listed, nor how much is looked up.
+fn reads(document: &Document, pattern: &Pattern) -> String {
+    let labels: BTreeSet<u32> = pattern.query.edges.iter().map(|e| e.label).collect();
+    if labels.contains(&ANY_LABEL) {
+        return "It reads connections of every kind.".into();
+    }
+    let kinds: Vec<_> = labels.into_iter().map(|label| document.connection_kind(label)).collect();
+    let kinds = match &kinds[..] {
+        [one] => format!("kind {one}"),
+        [first @ .., last] => format!("the kinds {} and {last}", first.join(", ")),
+        [] => "no kind".into(),
+    };
+    format!("It reads connections of {kinds}; no other connection can change its list.")
 }
 
 /// Says that the drawn plan ran instead of a picked one, where it did.

@@ -17,7 +17,7 @@ fn call_run(store: &[u32], files: &[u8], w: Lent, scratch: &mut [u32], list: &mu
 }
 
 // A run that is lent words of the store, the scratch and the list.
-fn lend(store: &[u32], files: &[u8], w: Lent, scratch: &mut [u32], list: &mut [u32]) -> Filled {
+pub fn lend(store: &[u32], files: &[u8], w: Lent, scratch: &mut [u32], list: &mut [u32]) -> Filled {
     let used = first(store, w.store);
     let words = least(w.scratch, scratch.len());
     let room = least(w.list, list.len());

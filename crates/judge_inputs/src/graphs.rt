@@ -98,6 +98,16 @@ pub fn turn_edges(g: &mut Graph, percent: usize, seed: &mut u64) {
     }
 }
 
+// Turns edges over, one of four, whose labels' indices are not in a set of them. Every label is used from here on.
+pub fn turn_others(g: &mut Graph, named: usize, seed: &mut u64) {
+    g[LABEL_COUNT] = 4;
+    for cell in 0..CELL_COUNT {
+        if (named >> (cell / 16 % 4)) % 2 == 0 {
+            turn_edge(g, cell, 25, seed);
+        }
+    }
+}
+
 // Spreads the places over the numbers, with a few vertices before and after them.
 fn spread(g: &mut Graph, seed: &mut u64) {
     let places = g[PLACES];

@@ -54,6 +54,9 @@ pub const SAVED: usize = 21;
 
 pub const ROWS: usize = 22;
 
+// A kind of results beside those above: over another store.
+pub const OTHERS: usize = 23;
+
 // How often the engine gave each refusal, from this word on.
 const REFUSALS: usize = 32;
 
@@ -112,6 +115,12 @@ pub fn print(tally: &Tally) {
         tally,
         REFUSED,
         DIFFERED,
+    );
+    print_counts(
+        b"compared: runs and drawn plans over other edges of labels that the query does not name\n",
+        tally,
+        OTHERS,
+        OTHERS + 1,
     );
     print_counts(b"differed in all\n", tally, DIFFERED, GRAPHS);
     print_counts(

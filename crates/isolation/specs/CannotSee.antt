@@ -1,0 +1,47 @@
+-- Non-interference: what another company hangs cannot be seen in any answer. Assumes nothing.
+use mathlib.Core.Path.{_≡_}
+use mathlib.Core.Bool.{Bool}
+use mathlib.Core.List.{List}
+use Prim.Native.Nat.{ℕ}
+use lib.ListN.{length}
+use Rattle.execution.specs.declared.RunAnswer.{RunAnswer}
+use Rattle.execution.specs.declared.Record.{Record}
+use Rattle.execution.specs.Run.{runAnswer, runList, runRecords, runScratch}
+use Rattle.planner.specs.declared.DrawAnswer.{DrawAnswer}
+use Rattle.planner.specs.Draw.{drawAnswer, drawBytes}
+use Rattle.isolation.specs.Others.{TwoCompanies}
+
+-- All that a caller of Run has in hand afterwards: the answer (refusal, rows, cost, build and probe rows), the list, the records and the
+-- scratch.
+pub record AfterRun : Type 0 where
+  pub answer : RunAnswer
+  pub list : List ℕ
+  pub records : List Record
+  pub scratch : List ℕ
+
+abbrev pub afterRun : Bool → List ℕ → List ℕ → List ℕ → List ℕ → List ℕ → List Record → AfterRun
+afterRun cache store query plan scratch list records =
+    record {
+      answer = runAnswer cache store query plan (length scratch) (length list) (length records);
+      list = runList cache store query plan (length scratch) list (length records);
+      records = runRecords cache store query plan (length scratch) (length list) records;
+      scratch = runScratch scratch;
+    }
+
+-- And after a plan was drawn: the answer and the lent bytes.
+pub record AfterDraw : Type 0 where
+  pub answer : DrawAnswer
+  pub bytes : List ℕ
+
+abbrev pub afterDraw : List ℕ → List ℕ → List ℕ → AfterDraw
+afterDraw store query bytes = record { answer = drawAnswer store query (length bytes); bytes = drawBytes store query bytes }
+
+-- No answer tells two stores apart: whatever plan, cache setting and buffers are lent, refused runs too.
+pub record CannotSee (query one two : List ℕ) : Type 0 where
+  pub run : (cache : Bool) (plan scratch list : List ℕ) (records : List Record)
+      → afterRun cache one query plan scratch list records ≡ afterRun cache two query plan scratch list records
+  pub draw : (bytes : List ℕ) → afterDraw one query bytes ≡ afterDraw two query bytes
+
+-- What another company hangs cannot be seen in any answer.
+abbrev pub NonInterference : List ℕ → List ℕ → List ℕ → Type 0
+NonInterference query one two = TwoCompanies query one two → CannotSee query one two

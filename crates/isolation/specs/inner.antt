@@ -1,0 +1,2 @@
+-- What the proof goes by.
+pub mod Readings
