@@ -1,30 +1,38 @@
 -- What another company hangs cannot be seen in any answer: the theorem. Assumes nothing.
-use mathlib.Core.Path.{_≡_, refl, sym, _∙_, ap₂}
-use mathlib.Core.Bool.{Bool, true, false}
-use mathlib.Core.List.{List, [], _∷_}
-use Prim.Native.Nat.{ℕ}
-use lib.Dec.{eqb}
-use lib.ListN.{length}
+use mathlib.Core.Path.{_≡_, refl, sym, _∙_, ap, ap₂}
+use mathlib.Core.Bool.{Bool, true, false, cond}
+use mathlib.Core.List.{List, [], _∷_, _++_, map}
+use Prim.Native.Nat.{ℕ, suc, _*_}
+use lib.Dec.{eqb, ltb}
+use lib.ListN.{length, drop}
 use borrow.Author.Tests.{eqb-true, eqb-false, ne-eqb}
-use Rattle.lists.specs.Refusal.{first}
-use Rattle.lists.proofs.Faults.{first-some}
+use Rattle.lists.specs.Refusal.{refuse, first, answered}
+use Rattle.lists.proofs.Faults.{first-some, first-head}
 use Rattle.graph.specs.Store.{graphIn, storeFault}
 use Rattle.graph.proofs.WellFormed.{WellFormed, well-formed}
 use Rattle.graph.proofs.Loads.{store-formed}
 use Rattle.query.specs.File.{queryOf, queryFault}
-use Rattle.plan.specs.File.{operatorsOf, checkFault, planFault}
+use Rattle.plan.specs.File.{operatorsOf, checkFault}
 use Rattle.execution.specs.declared.RunAnswer.{RunAnswer}
 use Rattle.execution.specs.declared.Record.{Record}
 use Rattle.execution.specs.Run.{runFault, runAnswer, runList, runRecords, runScratch}
 use Rattle.planner.specs.declared.DrawAnswer.{DrawAnswer}
 use Rattle.planner.specs.Draw.{drawnPlan, drawFault, drawAnswer, drawBytes}
+use Rattle.plan_file.proofs.Accepted.{accepted}
+use Rattle.plan_bounds.specs.declared.BoundsAnswer.{BoundsAnswer}
+use Rattle.plan_bounds.specs.Answer.{given as capped, boundsFault, boundsAnswer}
+use Rattle.plan_spectrum.specs.declared.OrderingsAnswer.{OrderingsAnswer}
+use Rattle.plan_spectrum.specs.Orders.{orderings}
+use Rattle.plan_spectrum.specs.Spectrum.{maxSpectrum, entries, limitFault, orderingsFault, orderingsAnswer, orderingsWords}
 use Rattle.isolation.specs.Others.{TwoCompanies}
 use Rattle.isolation.specs.inner.Readings.{SameReadings}
-use Rattle.isolation.specs.CannotSee.{AfterRun, afterRun, AfterDraw, afterDraw, CannotSee, NonInterference}
+use Rattle.isolation.specs.CannotSee.{AfterRun, afterRun, AfterDraw, afterDraw, AfterOrderings, afterOrderings, CannotSee, NonInterference}
 use Rattle.isolation.proofs.Own.{own, own-readings}
 use Rattle.isolation.proofs.Listed.{one-list}
 use Rattle.isolation.proofs.Plans.{SamePlan, same-plan}
 use Rattle.isolation.proofs.Drawn.{same-drawn}
+use Rattle.isolation.proofs.Bounded.{SameBounds, same-bounds}
+use Rattle.isolation.proofs.Ordered.{same-limit, same-entries}
 
 -- What a caller has in hand, put together.
 after : RunAnswer → List ℕ → List Record → List ℕ → AfterRun
@@ -33,19 +41,30 @@ after answer list records scratch = record { answer = answer; list = list; recor
 drawn : DrawAnswer → List ℕ → AfterDraw
 drawn answer bytes = record { answer = answer; bytes = bytes }
 
+numbers : ℕ → ℕ → ℕ → ℕ → ℕ → BoundsAnswer
+numbers refusal list scratch cost largest =
+    record { refusal = refusal; «list_words» = list; «scratch_words» = scratch; cost = cost; largest = largest }
+
+listed : ℕ → ℕ → OrderingsAnswer
+listed refusal plans = record { refusal = refusal; plans = plans }
+
+ordered : List ℕ → OrderingsAnswer → List ℕ → AfterOrderings
+ordered scratch answer words = record { answer = answer; words = words; scratch = scratch }
+
 -- ---- a query file that is refused: no store is looked at
 
 module _ (query : List ℕ) (refused : queryFault query ≡ 0 → ⊥) where
   given : eqb (queryFault query) 0 ≡ false
   given = ne-eqb (queryFault query) 0 refused
 
+  check-refused : (plan : List ℕ) → checkFault query plan ≡ queryFault query
+  unfolding checkFault
+  check-refused plan = first-some (queryFault query) _ refused
+
   module _ (cache : Bool) (store plan : List ℕ) where
     run-refused : (scratch list records : ℕ) → runFault cache store query plan scratch list records ≡ queryFault query
-    unfolding runFault checkFault
-    run-refused scratch list records = first-some _ _ (λ z. refused (sym checked ∙ z)) ∙ checked
-      where
-        checked : first (queryFault query ∷ planFault (queryOf query) plan ∷ []) ≡ queryFault query
-        checked = first-some (queryFault query) _ refused
+    unfolding runFault
+    run-refused scratch list records = first-some (checkFault query plan) _ (λ z. refused (sym (check-refused plan) ∙ z)) ∙ check-refused plan
 
     answer-refused : (scratch list records : ℕ)
         → runAnswer cache store query plan scratch list records ≡ record { refusal = queryFault query; rows = 0; cost = 0; build = 0; probe = 0 }
@@ -72,8 +91,29 @@ module _ (query : List ℕ) (refused : queryFault query ≡ 0 → ⊥) where
   unfolding drawBytes
   bytes-refused store bytes = rw (draw-refused store (length bytes), given)
 
+  bounds-fault-refused : (store plan : List ℕ) → boundsFault store query plan ≡ queryFault query
+  unfolding boundsFault
+  bounds-fault-refused store plan = first-some (checkFault query plan) _ (λ z. refused (sym (check-refused plan) ∙ z)) ∙ check-refused plan
+
+  bounds-refused : (store plan : List ℕ) → boundsAnswer store query plan ≡ numbers (queryFault query) 0 0 0 0
+  unfolding boundsAnswer numbers
+  bounds-refused store plan = rw (bounds-fault-refused store plan, given)
+
+  module _ (store : List ℕ) (scratch : ℕ) where
+    orderings-refused : (words : ℕ) → orderingsFault store query scratch words ≡ queryFault query
+    unfolding orderingsFault
+    orderings-refused words = first-some (queryFault query) _ refused
+
+    ordered-refused : (words : ℕ) → orderingsAnswer store query scratch words ≡ listed (queryFault query) 0
+    unfolding orderingsAnswer listed
+    ordered-refused words = rw (orderings-refused words, given)
+
+    words-refused : (words : List ℕ) → orderingsWords store query scratch words ≡ words
+    unfolding orderingsWords
+    words-refused words = rw (orderings-refused (length words), given)
+
   refused-cannot : (one two : List ℕ) → CannotSee query one two
-  unfolding after drawn
+  unfolding after drawn ordered
   refused-cannot one two =
       record {
         run = λ cache plan scratch list records. λ i.
@@ -86,6 +126,11 @@ module _ (query : List ℕ) (refused : queryFault query ≡ 0 → ⊥) where
             (runScratch scratch);
         draw = λ bytes.
             ap₂ drawn (drawn-refused one (length bytes) ∙ sym (drawn-refused two (length bytes))) (bytes-refused one bytes ∙ sym (bytes-refused two bytes));
+        bounds = λ plan. bounds-refused one plan ∙ sym (bounds-refused two plan);
+        orderings = λ scratch words.
+            ap₂ (ordered (runScratch scratch))
+            (ordered-refused one (length scratch) (length words) ∙ sym (ordered-refused two (length scratch) (length words)))
+            (words-refused one (length scratch) words ∙ sym (words-refused two (length scratch) words));
       }
 
 -- ---- a query file that is accepted
@@ -129,6 +174,60 @@ module _ (query one two : List ℕ) (stores : storeFault one ≡ storeFault two)
   unfolding drawAnswer drawBytes
   same-draw bytes = rw (same-draw-fault (length bytes), same)
 
+-- What is answered where nothing is refused is the same if the numbers then are.
+answered-same : (k m n : ℕ) → (k ≡ 0 → m ≡ n) → answered k m ≡ answered k n
+answered-same k m n same = go (eqb k 0) refl
+  where
+    go : (b : Bool) → eqb k 0 ≡ b → cond b m 0 ≡ cond b n 0
+    go true e = same (eqb-true k 0 e)
+    go false e = refl
+
+-- Where a plan that is accepted is bounded the same over both graphs, the bounds are answered the same.
+module _ (query one two : List ℕ) (stores : storeFault one ≡ storeFault two) (plan : List ℕ)
+    (p : checkFault query plan ≡ 0 → SameBounds (queryOf query) (graphIn one) (graphIn two) (operatorsOf plan)) where
+  same-bounds-fault : boundsFault one query plan ≡ boundsFault two query plan
+  unfolding boundsFault
+  same-bounds-fault = ap (λ (k : ℕ). first (checkFault query plan ∷ k ∷ [])) stores
+
+  bounded-same : boundsFault two query plan ≡ 0 → SameBounds (queryOf query) (graphIn one) (graphIn two) (operatorsOf plan)
+  unfolding boundsFault
+  bounded-same z = p (first-head _ _ z)
+
+  same-numbers : boundsAnswer one query plan ≡ boundsAnswer two query plan
+  unfolding boundsAnswer numbers
+  same-numbers =
+      rw (same-bounds-fault)
+      (λ i.
+      numbers (boundsFault two query plan)
+      (answered-same _ _ _ (λ z. ap capped (bounded-same z .list)) i)
+      (answered-same _ _ _ (λ z. ap capped (bounded-same z .need)) i)
+      (answered-same _ _ _ (λ z. ap capped (bounded-same z .cost)) i)
+      (answered-same _ _ _ (λ z. ap capped (bounded-same z .largest-is)) i))
+
+-- Where all orderings are refused and priced the same over both graphs, they are answered and listed the same.
+module _ (query one two : List ℕ) (stores : storeFault one ≡ storeFault two)
+    (limits : (scratch : ℕ) → limitFault (graphIn one) (queryOf query) scratch ≡ limitFault (graphIn two) (queryOf query) scratch)
+    (made : entries (graphIn one) (queryOf query) ≡ entries (graphIn two) (queryOf query)) where
+  same-orderings-fault : (scratch words : ℕ) → orderingsFault one query scratch words ≡ orderingsFault two query scratch words
+  unfolding orderingsFault
+  same-orderings-fault scratch words =
+      let q = queryOf query in
+      ap₂
+      (λ (k : ℕ) (f : List ℕ → ℕ).
+      first
+      (queryFault query ∷ refuse 31 (ltb maxSpectrum (q .vertices)) ∷ k
+      ∷ refuse 32 (ltb words (length (orderings q) * suc (q .vertices))) ∷ map f (orderings q)))
+      stores (limits scratch)
+
+  same-orderings : (scratch words : List ℕ) → afterOrderings one query scratch words ≡ afterOrderings two query scratch words
+  unfolding ordered listed orderingsAnswer orderingsWords
+  same-orderings scratch words =
+      ap₂ (ordered (runScratch scratch))
+      (ap (λ (k : ℕ). listed k (answered k (length (orderings (queryOf query)))))
+      (same-orderings-fault (length scratch) (length words)))
+      (ap₂ (λ (k : ℕ) (l : List ℕ). cond (eqb k 0) (l ++ drop (length l) words) words)
+      (same-orderings-fault (length scratch) (length words)) made)
+
 module _ (query one two : List ℕ) (t : TwoCompanies query one two) (e : queryFault query ≡ 0) where
   formed : (store : List ℕ) → storeFault store ≡ 0 → WellFormed (graphIn store)
   formed store a = well-formed (graphIn store) (store-formed store a .0)
@@ -155,6 +254,12 @@ module _ (query one two : List ℕ) (t : TwoCompanies query one two) (e : queryF
             same-run query one two stores cache plan
             (same-plan (queryOf query) (graphIn one) (graphIn two) (t .others e .none-any) same-own cache (operatorsOf plan));
         draw = same-draw query one two stores (same-drawn (queryOf query) (graphIn one) (graphIn two) same-readings);
+        bounds = λ plan.
+            same-numbers query one two stores plan
+            (λ c. same-bounds (queryOf query) (graphIn one) (graphIn two) same-readings (operatorsOf plan) (accepted query plan c .plan-named));
+        orderings =
+            same-orderings query one two stores (same-limit (queryOf query) (graphIn one) (graphIn two) (t .others e .none-any) same-own)
+            (same-entries (queryOf query) (graphIn one) (graphIn two) (t .others e .none-any) same-own);
       }
 
 -- What another company hangs cannot be seen in any answer.

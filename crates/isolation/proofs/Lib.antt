@@ -4,5 +4,7 @@ pub mod Listed
 pub mod Operators
 pub mod Plans
 pub mod Drawn
+pub mod Bounded
+pub mod Ordered
 pub mod Answers
 pub mod Worked

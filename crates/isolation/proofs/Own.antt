@@ -4,7 +4,7 @@ use mathlib.Core.Bool.{Bool, true, false, _&&_}
 use Prim.Native.Nat.{ℕ}
 use lib.Dec.{eqb}
 use borrow.Author.Tests.{eqb-true}
-use Rattle.lists.specs.Lists.{all, any, keep, countIf}
+use Rattle.lists.specs.Lists.{range, all, any, keep, countIf, largest}
 use Rattle.lists.proofs.Tests.{iff, clash, and-l, and-r, and-both, or-elim, eqb-refl}
 use Rattle.lists.proofs.All.{all-mem, mem-any}
 use Rattle.lists.proofs.Any.{any-keep, any-ext}
@@ -12,6 +12,7 @@ use Rattle.lists.proofs.Count.{count-keep}
 use Rattle.graph.specs.Graph.{Edge, Graph, Direction, near, covers, linked, portionLength}
 use Rattle.query.specs.Query.{Query}
 use Rattle.ordering.specs.Order.{edgesOf}
+use Rattle.plan_bounds.specs.Bounds.{longestPortion}
 use Rattle.isolation.specs.Others.{names, hasEdge}
 use Rattle.isolation.specs.inner.Readings.{SameReadings}
 
@@ -67,6 +68,10 @@ module _ (q : Query) (g : Graph) (none : names q 0 ≡ false) where
   unfolding edgesOf
   counts-own l n = count-own q g (λ (e : Edge). covers l (e .label)) (λ e t. covered l (e .label) n t)
 
+  pub longest-portion-own : (d : Direction) (l : ℕ) → names q l ≡ true → longestPortion (own q g) d l ≡ longestPortion g d l
+  unfolding longestPortion
+  longest-portion-own d l n = ap (λ (f : ℕ → ℕ). largest f (range (g .vertices))) (fun-ext (λ (x : ℕ). portions-own d l x n))
+
 -- Graphs with the same named edges give the same readings.
 pub own-readings : (q : Query) (g h : Graph) → names q 0 ≡ false → own q g ≡ own q h → SameReadings q g h
 own-readings q g h none e =
@@ -74,6 +79,8 @@ own-readings q g h none e =
       joins = λ l x y n. sym (joins-own q g none l x y n) ∙ ap (λ (k : Graph). linked k l x y) e ∙ joins-own q h none l x y n;
       portions = λ d l x n. sym (portions-own q g none d l x n) ∙ ap (λ (k : Graph). portionLength k d l x) e ∙ portions-own q h none d l x n;
       counts = λ l n. sym (counts-own q g none l n) ∙ ap (λ (k : Graph). edgesOf k l) e ∙ counts-own q h none l n;
+      longest = λ d l n.
+          sym (longest-portion-own q g none d l n) ∙ ap (λ (k : Graph). longestPortion k d l) e ∙ longest-portion-own q h none d l n;
     }
 
 -- And the same named edges: the converse of `one-list`, by which two concrete graphs are compared.

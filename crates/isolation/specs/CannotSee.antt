@@ -9,6 +9,9 @@ use Rattle.execution.specs.declared.Record.{Record}
 use Rattle.execution.specs.Run.{runAnswer, runList, runRecords, runScratch}
 use Rattle.planner.specs.declared.DrawAnswer.{DrawAnswer}
 use Rattle.planner.specs.Draw.{drawAnswer, drawBytes}
+use Rattle.plan_bounds.specs.Answer.{boundsAnswer}
+use Rattle.plan_spectrum.specs.declared.OrderingsAnswer.{OrderingsAnswer}
+use Rattle.plan_spectrum.specs.Spectrum.{orderingsAnswer, orderingsWords}
 use Rattle.isolation.specs.Others.{TwoCompanies}
 
 -- All that a caller of Run has in hand afterwards: the answer (refusal, rows, cost, build and probe rows), the list, the records and the
@@ -36,11 +39,28 @@ pub record AfterDraw : Type 0 where
 abbrev pub afterDraw : List ℕ → List ℕ → List ℕ → AfterDraw
 afterDraw store query bytes = record { answer = drawAnswer store query (length bytes); bytes = drawBytes store query bytes }
 
--- No answer tells two stores apart: whatever plan, cache setting and buffers are lent, refused runs too.
+-- And after all orderings of a small pattern: the answer, the lent words and the scratch.
+pub record AfterOrderings : Type 0 where
+  pub answer : OrderingsAnswer
+  pub words : List ℕ
+  pub scratch : List ℕ
+
+abbrev pub afterOrderings : List ℕ → List ℕ → List ℕ → List ℕ → AfterOrderings
+afterOrderings store query scratch words =
+    record {
+      answer = orderingsAnswer store query (length scratch) (length words);
+      words = orderingsWords store query (length scratch) words;
+      scratch = runScratch scratch;
+    }
+
+-- No answer tells two stores apart: whatever plan, cache setting and buffers are lent, refused runs too. The bounds of a plan lend nothing: their
+-- answer is all.
 pub record CannotSee (query one two : List ℕ) : Type 0 where
   pub run : (cache : Bool) (plan scratch list : List ℕ) (records : List Record)
       → afterRun cache one query plan scratch list records ≡ afterRun cache two query plan scratch list records
   pub draw : (bytes : List ℕ) → afterDraw one query bytes ≡ afterDraw two query bytes
+  pub bounds : (plan : List ℕ) → boundsAnswer one query plan ≡ boundsAnswer two query plan
+  pub orderings : (scratch words : List ℕ) → afterOrderings one query scratch words ≡ afterOrderings two query scratch words
 
 -- What another company hangs cannot be seen in any answer.
 abbrev pub NonInterference : List ℕ → List ℕ → List ℕ → Type 0
