@@ -226,8 +226,7 @@ impl<'d> Loaded<'d> {
             true => count_growing(engine, store, query_bytes, plan_bytes, memory, first),
             false => None,
         };
-        let ran =
-            counted.unwrap_or_else(|| run_growing(engine, store, query_bytes, plan_bytes, width, memory, first));
+        let ran = counted.unwrap_or_else(|| run_growing(engine, store, query_bytes, plan_bytes, width, memory, first));
         Ok((plan, ran.map_err(|no_run| Failure::run(no_run, memory))?))
     }
 }

@@ -170,7 +170,9 @@ impl Store {
         loop {
             match run(&self.words, query, plan, cache, scratch, list, records) {
                 Err(Refusal::ScratchSmall) if scratch.len() < MAX_WORDS => twice(scratch),
-                Err(Refusal::ListSmall) if list.len() < MAX_WORDS => self.fit_list(query, plan, cache, scratch, list)?,
+                Err(Refusal::ListSmall) if list.len() < MAX_WORDS => {
+                    self.fit_list(query, plan, cache, scratch, list)?
+                }
                 answer => return answer,
             }
         }

@@ -19,7 +19,8 @@ fn compare(r: &Random, case: &Case, scratch: usize) -> u32 {
     let want = &case.want;
     let numbers = [want.count as u64, want.cost, want.build, want.probe, want.need as u64];
     let wanted = if scratch < want.need { (20, [0; 5]) } else { (0, numbers) };
-    assert_eq!(calls::count(r, &input, scratch), wanted, "{scratch} words: {:?} {:?} {:?}", case.graph, case.query, case.plan);
+    let got = calls::count(r, &input, scratch);
+    assert_eq!(got, wanted, "{scratch} words: {:?} {:?} {:?}", case.graph, case.query, case.plan);
     wanted.0
 }
 

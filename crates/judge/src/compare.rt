@@ -1,4 +1,5 @@
 // The runs of a plan, against the matcher and against each other.
+use crate::counts::judge_count;
 use crate::runs;
 use judge_inputs::bits::*;
 use judge_inputs::graphs::Graph;
@@ -95,12 +96,13 @@ fn judge_records(store: &Store, files: &Files, ran: Ran, first: &List, tally: &m
     judge(tally, RECORDS, refusal == 22);
 }
 
-// Lists, records and scratches of many lengths.
+// Lists, records and scratches of many lengths, and a count.
 fn judge_lengths(store: &Store, files: &Files, ran: Ran, first: &List, tally: &mut Tally) {
     judge_list(store, files, ran, first, tally);
     judge_records(store, files, ran, first, tally);
     let need = judge_scratch(store, files, ran, first, tally);
     judge_need(store, files, ran, need, first, tally);
+    judge_count(store, files, ran.with, ran.answer, need, tally);
 }
 
 // Counts a plan with rows, one with joined rows, and the rows.
