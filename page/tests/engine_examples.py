@@ -48,7 +48,7 @@ class Examples(PageTest):
             drawn = self.browser.find(text, plan="drawn")
             self.assertEqual(sorted(drawn["rows"]), sorted(found["rows"]), name)
             compared += 1
-        self.assertEqual(compared, 6)
+        self.assertEqual(compared, 7)
 
     def test_the_refused_plan(self):
         refused = expected("refused-join")[0].split()[1]

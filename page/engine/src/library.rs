@@ -2,7 +2,7 @@
 //!
 //! A length has 64 bits there on every target, a pointer as many as the target's.
 
-use rizhavaan_core::engine::{Answer, Engine, Record, Refusal};
+use rizhavaan_core::engine::{Answer, Bounds, Engine, Record, Refusal};
 
 extern "C" {
     fn rizhavaan_load(
@@ -53,6 +53,48 @@ extern "C" {
         cost: *mut u64,
         build: *mut u64,
         probe: *mut u64,
+    ) -> u32;
+
+    fn rizhavaan_bounds(
+        store: *const u32,
+        store_len: u64,
+        query: *const u8,
+        query_len: u64,
+        plan: *const u8,
+        plan_len: u64,
+        list_words: *mut u64,
+        scratch_words: *mut u64,
+        cost: *mut u64,
+        largest: *mut u64,
+    ) -> u32;
+
+    fn rizhavaan_orderings(
+        store: *const u32,
+        store_len: u64,
+        query: *const u8,
+        query_len: u64,
+        scratch: *mut u32,
+        scratch_len: u64,
+        words: *mut u32,
+        words_len: u64,
+        plans: *mut u64,
+    ) -> u32;
+
+    fn rizhavaan_count(
+        store: *const u32,
+        store_len: u64,
+        query: *const u8,
+        query_len: u64,
+        plan: *const u8,
+        plan_len: u64,
+        cache: bool,
+        scratch: *mut u32,
+        scratch_len: u64,
+        rows: *mut u64,
+        cost: *mut u64,
+        build: *mut u64,
+        probe: *mut u64,
+        need: *mut u64,
     ) -> u32;
 
     fn rizhavaan_page(
@@ -178,5 +220,65 @@ impl Engine for Library {
             )
         };
         accepted(status, pages)
+    }
+
+    fn bounds(&self, store: &[u32], query: &[u8], plan: &[u8]) -> Result<Bounds, Refusal> {
+        let mut bounds = Bounds { list_words: 0, scratch_words: 0, cost: 0, largest: 0 };
+        let status = unsafe {
+            rizhavaan_bounds(
+                store.as_ptr(),
+                store.len() as u64,
+                query.as_ptr(),
+                query.len() as u64,
+                plan.as_ptr(),
+                plan.len() as u64,
+                &mut bounds.list_words,
+                &mut bounds.scratch_words,
+                &mut bounds.cost,
+                &mut bounds.largest,
+            )
+        };
+        accepted(status, bounds)
+    }
+
+    fn orderings(&self, store: &[u32], query: &[u8], scratch: &mut [u32], words: &mut [u32]) -> Result<u64, Refusal> {
+        let mut plans = 0;
+        let status = unsafe {
+            rizhavaan_orderings(
+                store.as_ptr(),
+                store.len() as u64,
+                query.as_ptr(),
+                query.len() as u64,
+                scratch.as_mut_ptr(),
+                scratch.len() as u64,
+                words.as_mut_ptr(),
+                words.len() as u64,
+                &mut plans,
+            )
+        };
+        accepted(status, plans)
+    }
+
+    fn count(&self, store: &[u32], query: &[u8], plan: &[u8], scratch: &mut [u32]) -> Option<Result<Answer, Refusal>> {
+        let (mut answer, mut need) = (Answer::default(), 0);
+        let status = unsafe {
+            rizhavaan_count(
+                store.as_ptr(),
+                store.len() as u64,
+                query.as_ptr(),
+                query.len() as u64,
+                plan.as_ptr(),
+                plan.len() as u64,
+                true,
+                scratch.as_mut_ptr(),
+                scratch.len() as u64,
+                &mut answer.rows,
+                &mut answer.cost,
+                &mut answer.build,
+                &mut answer.probe,
+                &mut need,
+            )
+        };
+        Some(accepted(status, answer))
     }
 }

@@ -14,7 +14,7 @@ pub fn explain(call: &Call) -> Answer {
     call.with_document(|answer, reading, document| {
         let pattern = call.pattern(document, reading)?;
         let loaded = reading.or_no(Loaded::load(&Library, document))?;
-        let found = reading.or_no(loaded.find(&Library, pattern, &options))?;
+        let found = reading.or_no(loaded.find_recorded(&Library, pattern, &options))?;
         let query = found.query.to_bytes();
         let estimate = found.estimate.clone().or_else(|| loaded.estimate(&query, &found.plan_bytes));
         answer.put("pattern", &pattern.title());
