@@ -58,10 +58,11 @@ fn changed(r: &Random, graph: &Graph, foreign: &[Change]) -> Vec<u32> {
     store
 }
 
-/// Plans, drawn ones too, lengths that fit and that do not, plans and queries that are refused: every number, row, record and byte.
+/// Plans, drawn ones too, their bounds, all orderings, lengths that fit and that do not, plans and queries that are refused: every number,
+/// row, record, word and byte.
 #[test]
 fn no_answer_changes() {
-    let (mut seen, mut rows, mut differing) = ([0usize; 31], 0, 0);
+    let (mut seen, mut rows, mut differing, mut entries) = ([0usize; 31], 0, 0, 0);
     each(0..40_000, |r| {
         let graph = Graph::random(r, 14);
         let query = named(r, Query::random(r, 6));
@@ -104,7 +105,15 @@ fn no_answer_changes() {
         let room = r.below(8);
         let draw = |store: &[u32]| calls::draw_plan(r, store, &query_file, room);
         assert_eq!(draw(&one), draw(&two), "{graph:?} {foreign:?} {query:?}");
+        let bounds = |store: &[u32]| calls::bounds(r, store, &query_file, &plan_file);
+        assert_eq!(bounds(&one), bounds(&two), "{graph:?} {foreign:?} {query:?} {plan:?}");
+        let (scratch, room) = (r.below(need + 200), if r.chance(1, 2) { 864 } else { r.below(60) });
+        let orderings = |store: &[u32]| calls::orderings(r, store, &query_file, scratch, room);
+        let listed = orderings(&one);
+        assert_eq!(listed, orderings(&two), "{graph:?} {foreign:?} {query:?} {scratch} {room}");
+        entries += listed.1;
     });
+    assert!(entries > 20_000, "{entries} orderings");
     assert!(rows > 30_000 && differing > 30_000, "{rows} rows, {differing} stores that differ");
     assert!([0, 6, 7, 9, 12, 14, 16, 20, 21, 22].iter().all(|&k| seen[k] > 20), "{seen:?}");
 }
