@@ -14,11 +14,11 @@ use Rattle.plan.specs.Check.{joinable, ruleFault, covered, endFault, rulesFault
 use Rattle.plan.specs.File.{place, operatorsOf, planFault, checkFault}
 use Rattle.matching.specs.Row.{members, pack, look}
 use Rattle.matching.specs.Match.{fits, holds, allows, permits}
-use Rattle.operators.specs.Scan.{scans, scanRows}
-use Rattle.operators.specs.Extend.{candidates, grown, sameUsed, reuses, extendAfter, extendRows, portionFor, rowCost, costAfter, extendCost}
-use Rattle.operators.specs.Join.{agree, partners, joinRows, heads}
-use Rattle.execution.specs.Pile.{longestSet, apply, costOf, buildOf, probeOf, pileAfter, topRows, topNeed, stepOf, stepsFrom}
-use Rattle.execution.specs.Run.{planRows, planCost, planBuild, planProbe, planNeed, planRecords, planNumbers, planPasses, runFault, runAnswer, runList, runRecords}
+use Rattle.operator_spec.specs.Scan.{scans, scanRows}
+use Rattle.operator_spec.specs.Extend.{candidates, grown, sameUsed, reuses, extendAfter, extendRows, portionFor, rowCost, costAfter, extendCost}
+use Rattle.operator_spec.specs.Join.{agree, partners, joinRows, heads}
+use Rattle.run_spec.specs.Pile.{longestSet, apply, costOf, buildOf, probeOf, pileAfter, topRows, topNeed, stepOf, stepsFrom}
+use Rattle.run_spec.specs.Run.{planRows, planCost, planBuild, planProbe, planNeed, planRecords, planNumbers, planPasses, runFault, runAnswer, runList, runRecords}
 use Rattle.cases.specs.Cases.{passes, starred}
 
 pub starred-pass : all passes starred ≡ true

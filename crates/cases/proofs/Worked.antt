@@ -12,9 +12,9 @@ use Rattle.query.specs.Query.{reached, connected}
 use Rattle.query.specs.File.{queryOf, queryFault}
 use Rattle.plan.specs.Check.{joinable, ruleFault, covered, endFault, rulesFault}
 use Rattle.plan.specs.File.{place, operatorsOf, planFault, checkFault}
-use Rattle.ordering.specs.Order.{edgesOf}
+use Rattle.plan_order.specs.Order.{edgesOf}
 use Rattle.matching.specs.Row.{members}
-use Rattle.operators.specs.Join.{heads}
+use Rattle.operator_spec.specs.Join.{heads}
 use Rattle.plan_bounds.specs.Bounds.{least, longestPortion, longestFor, leastPortion, sumOfPortions, rowsBound, costBound, applyBound, boundsAfter, stepBounds, topRowsBound, topNeedBound, listBound, needBound, costsBound, largestBound}
 use Rattle.plan_bounds.specs.Answer.{boundsFault, boundsAnswer}
 use Rattle.cases.specs.Bounds.{bounded, worked}

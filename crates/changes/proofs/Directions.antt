@@ -15,8 +15,8 @@ use Rattle.graph.proofs.WellFormed.{fitting}
 use Rattle.graph.proofs.Keys.{near-in, key-below, sortedKeys, forward-keys}
 use Rattle.change_file.specs.File.{Change, changeCount, changedEdge, changesOf}
 use Rattle.changes.specs.Edit.{changeKey, keysOf, applyChanges}
-use Rattle.merge.specs.inner.Toggle.{toggled}
-use Rattle.merge.specs.inner.Merge.{changeKeys}
+use Rattle.change_merge.specs.inner.Toggle.{toggled}
+use Rattle.change_merge.specs.inner.Merge.{changeKeys}
 use Rattle.changes.proofs.OtherKeys.{otherKey, keyFits, others-once, others-ascend, others-toggled, edges-other, edges-fit-keys}
 use Rattle.changes.proofs.EditedGraph.{Applied, applied-keys, applied-formed}
 use Rattle.changes.proofs.Present.{changeAt}

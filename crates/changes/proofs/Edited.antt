@@ -15,8 +15,8 @@ use Rattle.lists.proofs.Count.{count-append, count-map, count-keep, count-sum, 
 use Rattle.lists.proofs.Sort.{count-sort, ascending-once, ascending-same, sort-ascends, ascends-above, ascends-tail}
 use Rattle.change_file.specs.File.{Change}
 use Rattle.changes.specs.Edit.{changeKey, taken, editedKeys, applies}
-use Rattle.merge.specs.inner.Toggle.{toggle, toggled}
-use Rattle.merge.proofs.Toggles.{toggle-absent, toggle-present, ascending-toggled}
+use Rattle.change_merge.specs.inner.Toggle.{toggle, toggled}
+use Rattle.change_merge.proofs.Toggles.{toggle-absent, toggle-present, ascending-toggled}
 
 -- ---- what a list counts of one number
 

@@ -13,8 +13,8 @@ use Rattle.graph.proofs.WellFormed.{WellFormed, fitting}
 use Rattle.graph.proofs.Keys.{key-entry, key-near, edge-of}
 use Rattle.change_file.specs.File.{Change}
 use Rattle.changes.specs.Edit.{changeKey, keyEdge, keysOf, editedKeys, applyChanges, applies}
-use Rattle.merge.specs.inner.Toggle.{toggled}
-use Rattle.merge.proofs.Toggles.{all-toggled, ascending-toggled}
+use Rattle.change_merge.specs.inner.Toggle.{toggled}
+use Rattle.change_merge.proofs.Toggles.{all-toggled, ascending-toggled}
 use Rattle.changes.proofs.Edited.{additions, edited-toggled, edited-size}
 
 -- A key tells its edge, and an edge that fits is the one that its key tells.

@@ -22,11 +22,11 @@ use Rattle.graph.proofs.Keys.{sortedKeys}
 use Rattle.graph.proofs.Parts.{length-offsets, length-entries, store-shape}
 use Rattle.adjacency.specs.inner.Side.{sideIn, verticesIn, edgesIn}
 use Rattle.adjacency.proofs.Accepted.{graph-formed, store-vertices, store-edges, store-length}
-use Rattle.mirror.specs.inner.Mirror.{ForwardSide, Mirrorable, Mirrored}
+use Rattle.store_transpose.specs.inner.Transpose.{ForwardSide, Mirrorable, Mirrored}
 use Rattle.change_file.specs.File.{changeCount, changedEdge, changesOf, changeFault}
 use Rattle.changes.specs.Edit.{changeKey, applyChanges, editFault, editedGraph}
-use Rattle.merge.specs.inner.Toggle.{toggled}
-use Rattle.merge.specs.inner.Merge.{changeKeys, sideKeys, Keyed, sideWords, keysOn, SideOf, Fitting, Distinct}
+use Rattle.change_merge.specs.inner.Toggle.{toggled}
+use Rattle.change_merge.specs.inner.Merge.{changeKeys, sideKeys, Keyed, sideWords, keysOn, SideOf, Fitting, Distinct}
 use Rattle.changes.specs.inner.Fill.{Accepted, wordsOn, sidesOf, HeadKept}
 use Rattle.changes.proofs.EditedGraph.{Applied, applied-formed}
 use Rattle.changes.proofs.Present.{file-sized, changes-fit, changes-ascend}
@@ -132,14 +132,14 @@ module _ {old : List ℕ} {n : ℕ} {s : List ℕ} {k : ℕ} (h : Accepted old n
 
   -- ---- both sides
 
-  new-vertices : n ≡ editedGraph old s .vertices
+  extension-set : n ≡ editedGraph old s .vertices
   unfolding applyChanges
-  new-vertices = n-is
+  extension-set = n-is
 
   forward-size : length (wordsOn forward (editedGraph old s)) ≡ suc n + length (editedGraph old s .edges)
   forward-size =
       length-append (offsets forward (editedGraph old s)) (entries forward (editedGraph old s))
-      ∙ ap₂ (λ (x y : ℕ). x + y) (length-offsets forward (editedGraph old s) ∙ ap suc (sym new-vertices)) (length-entries forward (editedGraph old s))
+      ∙ ap₂ (λ (x y : ℕ). x + y) (length-offsets forward (editedGraph old s) ∙ ap suc (sym extension-set)) (length-entries forward (editedGraph old s))
 
   module _ (side : List ℕ) {m : ℕ} (e : m ≡ length (editedGraph old s .edges)) (room : n + 1 + m + (n + 1 + m) ≤ length side)
       {one : List ℕ} (a : one ≡ wordsOn forward (editedGraph old s) ++ drop (suc n + length (editedGraph old s .edges)) side) where
@@ -153,7 +153,7 @@ module _ {old : List ℕ} {n : ℕ} {s : List ℕ} {k : ℕ} (h : Accepted old n
     one-forward =
         record {
           formed = formed-well (editedGraph old s) new-formed;
-          vertices = new-vertices;
+          vertices = extension-set;
           edges = e;
           words = ap (take (n + 1 + m)) a ∙ take-at (wordsOn forward (editedGraph old s)) (drop (suc n + length (editedGraph old s .edges)) side) (n + 1 + m) (forward-size ∙ sym place);
         }

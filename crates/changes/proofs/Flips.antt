@@ -8,8 +8,8 @@ use lib.Dec.{eqb}
 use borrow.Author.Tests.{eqb-true}
 use Rattle.lists.specs.Lists.{bit, countIf, ascending}
 use Rattle.lists.proofs.Sort.{ascending-once}
-use Rattle.merge.specs.inner.Toggle.{toggle, toggled}
-use Rattle.merge.proofs.Toggles.{toggle-absent, toggle-present, ascending-toggled}
+use Rattle.change_merge.specs.inner.Toggle.{toggle, toggled}
+use Rattle.change_merge.proofs.Toggles.{toggle-absent, toggle-present, ascending-toggled}
 
 -- How often k stands in the list after y is toggled.
 abbrev flipped : Bool → ℕ → ℕ

@@ -14,8 +14,8 @@ use Rattle.lists.proofs.Sort.{count-sort, ascending-once, ascending-same, sort-
 use Rattle.lists.proofs.Maps.{map-under}
 use Rattle.graph.specs.Graph.{Edge, forward, backward, key}
 use Rattle.graph.proofs.WellFormed.{Fitting, fitting, fitting-edge}
-use Rattle.merge.specs.inner.Toggle.{toggled}
-use Rattle.merge.proofs.Toggles.{ascending-toggled, all-toggled}
+use Rattle.change_merge.specs.inner.Toggle.{toggled}
+use Rattle.change_merge.proofs.Toggles.{ascending-toggled, all-toggled}
 use Rattle.changes.proofs.Flips.{turnedBy, toggled-count}
 
 -- From a forward key to the backward key of the same edge, and the other way round.

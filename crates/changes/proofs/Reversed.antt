@@ -14,8 +14,8 @@ use Rattle.lists.proofs.Sort.{ascending-once, ascending-same}
 use Rattle.change_file.specs.File.{Change}
 use Rattle.changes.specs.Edit.{changeKey, editedKeys, applies}
 use Rattle.changes.specs.Claims.{turned}
-use Rattle.merge.specs.inner.Toggle.{toggled}
-use Rattle.merge.proofs.Toggles.{ascending-toggled}
+use Rattle.change_merge.specs.inner.Toggle.{toggled}
+use Rattle.change_merge.proofs.Toggles.{ascending-toggled}
 use Rattle.changes.proofs.Flips.{turnedBy, toggled-count}
 use Rattle.changes.proofs.Edited.{edited-toggled}
 

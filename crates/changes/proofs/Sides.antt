@@ -22,9 +22,9 @@ use Rattle.adjacency.proofs.Listed.{store-list}
 use Rattle.adjacency.proofs.Accepted.{side-ends, graph-formed, store-vertices, store-edges, store-length, offset-in, list-within, list-on}
 use Rattle.change_file.specs.File.{changeCount, changesOf}
 use Rattle.changes.specs.Edit.{changeKey}
-use Rattle.merge.specs.inner.Merge.{entriesOf, sideKeys, sideWords, keysOn, SideOf}
+use Rattle.change_merge.specs.inner.Merge.{entriesOf, sideKeys, sideWords, keysOn, SideOf}
 use Rattle.changes.proofs.Present.{changeAt}
-use Rattle.merge.proofs.Parting.{keys-on}
+use Rattle.change_merge.proofs.Parting.{keys-on}
 
 -- The keys of n vertices' edges are below those of vertex n.
 pub keys-bounded : (g : Graph) → WellFormed g → (d : Direction) → all (λ (k : ℕ). ltb k (g .vertices * 16777216)) (sortedKeys d g) ≡ true

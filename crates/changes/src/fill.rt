@@ -8,8 +8,8 @@ ghost use Rattle.graph.specs.Graph.{forward, backward};
 ghost use Rattle.graph.specs.Store.{storeOf, usedWords};
 ghost use Rattle.changes.specs.Edit.{editedGraph};
 ghost use Rattle.changes.specs.inner.Fill.{Accepted, manyChanges, wordsOn, sidesOf, HeadKept};
+use change_merge::backward;
 use graph::Graph;
-use merge::backward;
 
 // Few changes are fewer than this, since the square of their number is at most that of the edges.
 const MANY: usize = 1024;
@@ -21,7 +21,7 @@ fn forward_side(old: &[u32], n: usize, file: &[u8], k: usize, side: &mut [u32])
         ++ drop (suc n + length (editedGraph (now (old .entry)) (now (file .entry)) .edges)) (now (side .entry)) ⌝ }
 {
     let none: [u64; 0] = [];
-    merge::merge_side(old, n, 2 + 2 * n, file, &none, k, side);
+    change_merge::merge_side(old, n, 2 + 2 * n, file, &none, k, side);
 }
 
 // The backward side of few changes.
@@ -33,7 +33,7 @@ fn backward_side(old: &[u32], n: usize, file: &[u8], k: usize, side: &mut [u32])
     let at = Graph::of_store(old).backward();
     let mut keys = [0u64; MANY];
     backward::backward_keys(file, k, &mut keys);
-    merge::merge_side(old, n, at, file, &keys[..k], k, side);
+    change_merge::merge_side(old, n, at, file, &keys[..k], k, side);
 }
 
 // Both sides merged.
@@ -51,7 +51,7 @@ fn mirrored_sides(old: &[u32], n: usize, file: &[u8], k: usize, m: usize, side: 
     ensures { λ _. ⌜ now (side .exit) ≡ sidesOf (editedGraph (now (old .entry)) (now (file .entry))) ++ drop (n + 1 + m + (n + 1 + m)) (now (side .entry)) ⌝ }
 {
     forward_side(old, n, file, k, side);
-    mirror::mirror(side, n, m);
+    store_transpose::transpose(side, n, m);
     forward_side(old, n, file, k, side);
 }
 

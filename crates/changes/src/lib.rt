@@ -26,7 +26,7 @@ fn edited_edges(file: &[u8], k: usize, m: usize) -> usize
 fn apply_fault(old: &[u32], file: &[u8], room: usize) -> u32
     ensures { λ r. ⌜ r ≡ applyFault (now (old .entry)) (now (file .entry)) room ⌝ }
 {
-    let damaged = store::store_fault(old);
+    let damaged = store_check::store_fault(old);
     if damaged != 0 {
         return damaged;
     }

@@ -13,9 +13,9 @@ use Rattle.graph.proofs.WellFormed.{WellFormed, well-formed}
 use Rattle.graph.proofs.Loads.{store-formed}
 use Rattle.query.specs.File.{queryOf, queryFault}
 use Rattle.plan.specs.File.{operatorsOf, checkFault}
-use Rattle.execution.specs.declared.RunAnswer.{RunAnswer}
-use Rattle.execution.specs.declared.Record.{Record}
-use Rattle.execution.specs.Run.{runFault, runAnswer, runList, runRecords, runScratch}
+use Rattle.run_spec.specs.declared.RunAnswer.{RunAnswer}
+use Rattle.run_spec.specs.declared.Record.{Record}
+use Rattle.run_spec.specs.Run.{runFault, runAnswer, runList, runRecords, runScratch}
 use Rattle.planner.specs.declared.DrawAnswer.{DrawAnswer}
 use Rattle.planner.specs.Draw.{drawnPlan, drawFault, drawAnswer, drawBytes}
 use Rattle.plan_file.proofs.Accepted.{accepted}

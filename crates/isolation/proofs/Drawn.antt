@@ -8,8 +8,8 @@ use Rattle.packed.specs.Encode.{bytesOf}
 use Rattle.graph.specs.Graph.{Edge, Graph}
 use Rattle.query.specs.Query.{Query, edgeAt}
 use Rattle.plan.specs.Plan.{ends}
-use Rattle.ordering.specs.Order.{scanSize, scanEdge, extendsFrom}
-use Rattle.ordering.proofs.Choosing.{chosen-ext}
+use Rattle.plan_order.specs.Order.{scanSize, scanEdge, extendsFrom}
+use Rattle.plan_order.proofs.Choosing.{chosen-ext}
 use Rattle.planner.specs.Draw.{planBits, drawnPlan}
 use Rattle.isolation.specs.Others.{names}
 use Rattle.isolation.specs.inner.Readings.{SameReadings}

@@ -14,9 +14,9 @@ use Rattle.query.specs.Query.{Query, VertexSet, inside, between}
 use Rattle.plan.specs.Plan.{ends}
 use Rattle.matching.specs.Row.{Assignment, pack, look, assign}
 use Rattle.matching.specs.Match.{fits, holds, permits}
-use Rattle.operators.specs.Scan.{endsAt, scans, scanRows}
-use Rattle.operators.specs.Extend.{candidates, grown, reuses, extendAfter, extendRows, portionFor, rowCost, costAfter, extendCost}
-use Rattle.execution.specs.Pile.{longestSet}
+use Rattle.operator_spec.specs.Scan.{endsAt, scans, scanRows}
+use Rattle.operator_spec.specs.Extend.{candidates, grown, reuses, extendAfter, extendRows, portionFor, rowCost, costAfter, extendCost}
+use Rattle.run_spec.specs.Pile.{longestSet}
 use Rattle.isolation.specs.Others.{names}
 use Rattle.isolation.proofs.Own.{own, each-named, joins-own, portions-own}
 

@@ -7,7 +7,7 @@ use lib.Dec.{ltb}
 use Rattle.lists.specs.Refusal.{refuse, first}
 use Rattle.graph.specs.Graph.{Graph}
 use Rattle.query.specs.Query.{Query}
-use Rattle.execution.specs.Run.{counted}
+use Rattle.run_spec.specs.Run.{counted}
 use Rattle.plan_spectrum.specs.Orders.{orderings, planOf}
 use Rattle.plan_spectrum.specs.Spectrum.{costWords, entries, limitFault}
 use Rattle.isolation.specs.Others.{names}

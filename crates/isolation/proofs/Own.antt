@@ -11,7 +11,7 @@ use Rattle.lists.proofs.Any.{any-keep, any-ext}
 use Rattle.lists.proofs.Count.{count-keep}
 use Rattle.graph.specs.Graph.{Edge, Graph, Direction, near, covers, linked, portionLength}
 use Rattle.query.specs.Query.{Query}
-use Rattle.ordering.specs.Order.{edgesOf}
+use Rattle.plan_order.specs.Order.{edgesOf}
 use Rattle.plan_bounds.specs.Bounds.{longestPortion}
 use Rattle.isolation.specs.Others.{names, hasEdge}
 use Rattle.isolation.specs.inner.Readings.{SameReadings}

@@ -11,8 +11,8 @@ use Rattle.graph.specs.Graph.{Graph}
 use Rattle.query.specs.Query.{Query, VertexSet, edgeAt}
 use Rattle.plan.specs.Plan.{Operator, scan, extend, join, ends, plus}
 use Rattle.matching.specs.Row.{width}
-use Rattle.execution.specs.Pile.{Result, apply, pileAfter, topRows, topNeed, costOf, buildOf, probeOf, Step, stepOf, stepsFrom}
-use Rattle.execution.specs.Run.{planRows, planNeed, planCost, planBuild, planProbe, recordOf, planRecords, maxNumber, planNumbers, planPasses}
+use Rattle.run_spec.specs.Pile.{Result, apply, pileAfter, topRows, topNeed, costOf, buildOf, probeOf, Step, stepOf, stepsFrom}
+use Rattle.run_spec.specs.Run.{planRows, planNeed, planCost, planBuild, planProbe, recordOf, planRecords, maxNumber, planNumbers, planPasses}
 use Rattle.isolation.specs.Others.{names}
 use Rattle.isolation.proofs.Own.{own}
 use Rattle.isolation.proofs.Operators.{scan-own, extend-own, longest-own, cost-own}

@@ -17,10 +17,10 @@ use Rattle.plan.specs.Check.{joinable, ruleFault, covered, endFault, rulesFault
 use Rattle.plan.specs.File.{place, operatorsOf, planFault, checkFault}
 use Rattle.matching.specs.Row.{members, pack, look}
 use Rattle.matching.specs.Match.{fits, holds, allows, permits}
-use Rattle.operators.specs.Scan.{scans, scanRows}
-use Rattle.execution.specs.declared.Record.{Record}
-use Rattle.execution.specs.Pile.{apply, costOf, buildOf, probeOf, pileAfter, topRows, topNeed, stepOf, stepsFrom}
-use Rattle.execution.specs.Run.{planRows, planCost, planBuild, planProbe, planNeed, planNumbers, planPasses, runFault, runAnswer}
+use Rattle.operator_spec.specs.Scan.{scans, scanRows}
+use Rattle.run_spec.specs.declared.Record.{Record}
+use Rattle.run_spec.specs.Pile.{apply, costOf, buildOf, probeOf, pileAfter, topRows, topNeed, stepOf, stepsFrom}
+use Rattle.run_spec.specs.Run.{planRows, planCost, planBuild, planProbe, planNeed, planNumbers, planPasses, runFault, runAnswer}
 use Rattle.isolation.specs.Others.{names, hasEdge, TwoCompanies}
 use Rattle.isolation.specs.CannotSee.{AfterRun, CannotSee}
 use Rattle.isolation.proofs.Own.{own-named}

@@ -4,9 +4,9 @@ use mathlib.Core.Bool.{Bool}
 use mathlib.Core.List.{List}
 use Prim.Native.Nat.{ℕ}
 use lib.ListN.{length}
-use Rattle.execution.specs.declared.RunAnswer.{RunAnswer}
-use Rattle.execution.specs.declared.Record.{Record}
-use Rattle.execution.specs.Run.{runAnswer, runList, runRecords, runScratch}
+use Rattle.run_spec.specs.declared.RunAnswer.{RunAnswer}
+use Rattle.run_spec.specs.declared.Record.{Record}
+use Rattle.run_spec.specs.Run.{runAnswer, runList, runRecords, runScratch}
 use Rattle.planner.specs.declared.DrawAnswer.{DrawAnswer}
 use Rattle.planner.specs.Draw.{drawAnswer, drawBytes}
 use Rattle.plan_bounds.specs.Answer.{boundsAnswer}

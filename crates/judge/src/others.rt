@@ -1,7 +1,6 @@
 // Edges of labels that a query does not name: over a second store that has others of them, Run and Draw plan answer and leave the same.
 use crate::records::COUNT;
 use crate::runs;
-use execution::Record;
 use judge_inputs::graphs;
 use judge_inputs::graphs::Graph;
 use judge_inputs::queries;
@@ -13,6 +12,7 @@ use judge_matcher::stores::load_file;
 use judge_matcher::tally::*;
 use planner::DrawAnswer;
 use run::RunAnswer;
+use run_spec::Record;
 
 // The labels of a query's edges, a bit each: any label, then the graph's first three.
 fn named(q: &Query) -> usize {

@@ -1,11 +1,11 @@
 // The records of a run: marked before, judged afterwards.
-use execution::Record;
 use judge_matcher::tally;
 use judge_matcher::tally::Tally;
 use lending::Filled;
 use lending::Lending;
 use plan::Plan;
 use run::RunAnswer;
+use run_spec::Record;
 
 pub const COUNT: usize = Plan::MAX_OPERATORS;
 

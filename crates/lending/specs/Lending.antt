@@ -4,8 +4,8 @@ use mathlib.Core.Bool.{Bool}
 use mathlib.Core.List.{List, _++_}
 use Prim.Native.Nat.{ℕ}
 use lib.ListN.{length, take, drop}
-use Rattle.execution.specs.declared.Record.{Record}
-use Rattle.execution.specs.Run.{runAnswer, runList, runRecords, runScratch}
+use Rattle.run_spec.specs.declared.Record.{Record}
+use Rattle.run_spec.specs.Run.{runAnswer, runList, runRecords, runScratch}
 use Rattle.lending.specs.declared.Lending.{Lending}
 use Rattle.lending.specs.declared.Filled.{Filled}
 

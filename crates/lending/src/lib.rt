@@ -1,8 +1,8 @@
 // Run for callers that hold the records in an array: it lends them as the slice that Run takes.
-use execution::Record;
-use execution::RunAnswer;
 use plan::Plan;
 use run::run;
+use run_spec::Record;
+use run_spec::RunAnswer;
 ghost use Prim.Native.Nat.{_≤_};
 ghost use Rattle.plan.specs.Plan.{maxOperators};
 ghost use Rattle.lending.specs.Lending.{Fills};

@@ -20,7 +20,7 @@ use Rattle.plan.specs.inner.Pile.{named}
 use Rattle.plan.specs.inner.Struct.{planStruct, operatorsIn}
 use Rattle.plan_file.proofs.Structs.{file-operators}
 use Rattle.plan_file.proofs.Accepted.{accepted}
-use Rattle.ordering.specs.inner.Counts.{Drawable}
+use Rattle.plan_order.specs.inner.Counts.{Drawable}
 use Rattle.plan_bounds.specs.Bounds.{listBound, needBound, costsBound, largestBound}
 use Rattle.plan_bounds.specs.Answer.{given, boundsFault, boundsAnswer}
 use Rattle.plan_bounds.specs.inner.Held.{Numbers}

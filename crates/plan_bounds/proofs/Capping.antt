@@ -7,7 +7,7 @@ use native.Mathlib.Omega.{arith}
 use lib.Dec.{ltb}
 use lib.Pow.{pow-mono}
 use borrow.Author.Tests.{ltb-true, ltb-false}
-use Rattle.operators.specs.Join.{heads}
+use Rattle.operator_spec.specs.Join.{heads}
 use Rattle.join_key.proofs.Doubled.{Doubled, doubled-one, doubled-some, doubled-next, doubled-last}
 use Rattle.plan_bounds.specs.Capped.{Term, number, sum, product, larger, smaller, headsOf, plain, capped, CappedAtTheEnd}
 

@@ -24,10 +24,10 @@ use Rattle.query_file.proofs.Structs.{at-least-vertices}
 use Rattle.plan.specs.Plan.{Operator}
 use Rattle.plan.specs.File.{operatorCount, operatorAt, place, operatorsOf, checkFault}
 use Rattle.plan_file.proofs.Accepted.{Accepted, accepted}
-use Rattle.execution.specs.Pile.{Step, pileAfter}
-use Rattle.execution.specs.Run.{planSteps, planRows, planNeed, planCost, planBuild, planProbe, maxNumber, planNumbers, planPasses, counted, runFault, runAnswer}
-use Rattle.execution.proofs.Demand.{checked-edges}
-use Rattle.execution.proofs.Records.{count-steps}
+use Rattle.run_spec.specs.Pile.{Step, pileAfter}
+use Rattle.run_spec.specs.Run.{planSteps, planRows, planNeed, planCost, planBuild, planProbe, maxNumber, planNumbers, planPasses, counted, runFault, runAnswer}
+use Rattle.run_spec.proofs.Demand.{checked-edges}
+use Rattle.run_spec.proofs.Records.{count-steps}
 use Rattle.plan_bounds.specs.Bounds.{boundsAfter, listBound, needBound, costsBound, largestBound}
 use Rattle.plan_bounds.specs.Answer.{given, boundsFault, boundsAnswer}
 use Rattle.plan_bounds.specs.Promise.{BelowCap, NotShort, NeverShort}

@@ -19,16 +19,16 @@ use Rattle.graph.specs.Graph.{Edge, Graph, Direction, forward, backward, near, 
 use Rattle.graph.proofs.WellFormed.{WellFormed, fitting, fitting-edge}
 use Rattle.query.specs.Query.{Query, VertexSet, edgeAt, inside, between, touches}
 use Rattle.plan.specs.Plan.{ends, plus, union}
-use Rattle.ordering.specs.Order.{edgesOf}
+use Rattle.plan_order.specs.Order.{edgesOf}
 use Rattle.matching.specs.Row.{Assignment, pack, look, assign}
 use Rattle.matching.specs.Match.{fits, holds, permits}
 use Rattle.matching.proofs.Cuts.{proper, proper-ends}
-use Rattle.operators.specs.Scan.{endsAt, scans, scanRows}
-use Rattle.operators.specs.Extend.{candidates, grown, reuses, extendRows, portionFor, rowCost, costAfter, extendCost}
-use Rattle.operators.specs.Join.{agree, joined, partners, joinRows}
-use Rattle.operators.proofs.Cached.{extend-rows}
-use Rattle.operators.proofs.Reach.{reaches, candidates-reach}
-use Rattle.execution.specs.Pile.{longestSet}
+use Rattle.operator_spec.specs.Scan.{endsAt, scans, scanRows}
+use Rattle.operator_spec.specs.Extend.{candidates, grown, reuses, extendRows, portionFor, rowCost, costAfter, extendCost}
+use Rattle.operator_spec.specs.Join.{agree, joined, partners, joinRows}
+use Rattle.operator_spec.proofs.Cached.{extend-rows}
+use Rattle.operator_spec.proofs.Reach.{reaches, candidates-reach}
+use Rattle.run_spec.specs.Pile.{longestSet}
 use Rattle.plan_bounds.specs.Bounds.{least, longestPortion, longestFor, leastPortion, sumOfPortions}
 use Rattle.plan_bounds.proofs.Counting.{total-le, total-at-most, largest-at-most, at-most-least, at-most-largest, reach-one, reach-count}
 

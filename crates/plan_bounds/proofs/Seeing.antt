@@ -27,9 +27,9 @@ use Rattle.adjacency.proofs.Portions.{portion-length}
 use Rattle.query.specs.Query.{Query, VertexSet, between}
 use Rattle.query.specs.inner.Struct.{edgeOf, queryIn}
 use Rattle.query.specs.declared.Query.{Query as QueryStruct}
-use Rattle.ordering.specs.Order.{edgesOf}
-use Rattle.ordering.specs.inner.Counts.{labelCounts, edgeCounts}
-use Rattle.ordering.proofs.Tallies.{part-counts}
+use Rattle.plan_order.specs.Order.{edgesOf}
+use Rattle.plan_order.specs.inner.Counts.{labelCounts, edgeCounts}
+use Rattle.plan_order.proofs.Tallies.{part-counts}
 use Rattle.plan_bounds.specs.Bounds.{least, longestPortion, longestFor, leastPortion, sumOfPortions}
 use Rattle.plan_bounds.specs.inner.Held.{Sided, Counts, Seen, covering}
 use Rattle.plan_bounds.specs.declared.longest.Portions.{Portions}

@@ -19,9 +19,9 @@ use Rattle.plan.specs.inner.Pile.{named}
 use Rattle.plan.specs.Check.{ruleFault, covered, rulesFault}
 use Rattle.matching.specs.Row.{width}
 use Rattle.matching.proofs.Cuts.{proper}
-use Rattle.operators.specs.Join.{heads}
-use Rattle.execution.specs.Pile.{Result, apply, pileAfter, topRows, topNeed, costOf, buildOf, probeOf, Step, stepOf, stepsFrom}
-use Rattle.execution.proofs.Whole.{setsOf, sets-apply}
+use Rattle.operator_spec.specs.Join.{heads}
+use Rattle.run_spec.specs.Pile.{Result, apply, pileAfter, topRows, topNeed, costOf, buildOf, probeOf, Step, stepOf, stepsFrom}
+use Rattle.run_spec.proofs.Whole.{setsOf, sets-apply}
 use Rattle.plan_bounds.specs.Bounds.{Bound, rowsBound, costBound, applyBound, boundsAfter, StepBound, stepBounds, topRowsBound, topNeedBound, leastPortion, sumOfPortions}
 use Rattle.plan_bounds.proofs.Capping.{heads-mono}
 use Rattle.plan_bounds.proofs.Reached.{scan-within, extend-within, longest-least, cost-within, join-within}

@@ -16,9 +16,9 @@ use Rattle.query.specs.inner.Mask.{inMask}
 use Rattle.plan.specs.Plan.{Operator, scan, extend, join, ends, plus, union}
 use Rattle.plan.specs.inner.Struct.{operatorIn, operatorsIn}
 use Rattle.plan.specs.declared.Plan.{Plan as PlanStruct}
-use Rattle.ordering.specs.Order.{edgesOf}
+use Rattle.plan_order.specs.Order.{edgesOf}
 use Rattle.matching.specs.Row.{members, width}
-use Rattle.operators.specs.Join.{heads}
+use Rattle.operator_spec.specs.Join.{heads}
 use Rattle.plan_bounds.specs.Bounds.{leastPortion, sumOfPortions, Bound, rowsBound, costBound, applyBound, boundsAfter, StepBound, stepBound, stepBounds, topRowsBound, topNeedBound, listBound, needBound, costsBound, largestBound}
 use Rattle.plan_bounds.specs.Answer.{given}
 use Rattle.plan_bounds.specs.inner.Held.{Under, Put, Piled, After, Numbers}

@@ -5,7 +5,7 @@ use Rattle.lists.specs.Refusal.{first, answered}
 use Rattle.graph.specs.Store.{graphIn, storeFault}
 use Rattle.query.specs.File.{queryOf}
 use Rattle.plan.specs.File.{operatorsOf, checkFault}
-use Rattle.execution.specs.Run.{maxNumber}
+use Rattle.run_spec.specs.Run.{maxNumber}
 use Rattle.plan_bounds.specs.declared.BoundsAnswer.{BoundsAnswer}
 use Rattle.plan_bounds.specs.Bounds.{listBound, needBound, costsBound, largestBound}
 

@@ -7,9 +7,9 @@ use Rattle.lists.specs.Lists.{range, keep, total, largest}
 use Rattle.graph.specs.Graph.{Edge, Graph, Direction, forward, backward, portionLength}
 use Rattle.query.specs.Query.{Query, VertexSet, edgeAt, between}
 use Rattle.plan.specs.Plan.{Operator, scan, extend, join, ends, plus, union}
-use Rattle.ordering.specs.Order.{edgesOf}
+use Rattle.plan_order.specs.Order.{edgesOf}
 use Rattle.matching.specs.Row.{width}
-use Rattle.operators.specs.Join.{heads}
+use Rattle.operator_spec.specs.Join.{heads}
 
 -- The least of a number taken of each element; 0 where there is none.
 unfoldable pub least : {A : Type 0} → (A → ℕ) → List A → ℕ

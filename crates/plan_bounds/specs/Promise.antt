@@ -8,8 +8,8 @@ use lib.Dec.{ltb}
 use lib.ListN.{length}
 use Rattle.lists.specs.Refusal.{refuse}
 use Rattle.plan.specs.File.{operatorsOf}
-use Rattle.operators.specs.Limit.{maxWords}
-use Rattle.execution.specs.Run.{runAnswer}
+use Rattle.operator_spec.specs.Limit.{maxWords}
+use Rattle.run_spec.specs.Run.{runAnswer}
 use Rattle.plan_bounds.specs.declared.BoundsAnswer.{BoundsAnswer}
 use Rattle.plan_bounds.specs.Answer.{boundsAnswer}
 

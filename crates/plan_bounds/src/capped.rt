@@ -1,7 +1,7 @@
 // Numbers of 64 bits that stop at the largest: no sum and no product wraps.
 ghost use mathlib.Core.Path.{_≡_};
 ghost use Prim.Native.Nat.{_+_, _*_, max};
-ghost use Rattle.operators.specs.Join.{heads};
+ghost use Rattle.operator_spec.specs.Join.{heads};
 ghost use Rattle.plan_bounds.specs.Answer.{given};
 
 pub const TOP: u64 = 18446744073709551615;

@@ -38,7 +38,7 @@ pub fn bounds(store: &[u32], query: &[u8], plan: &[u8]) -> BoundsAnswer
     if fault != 0 {
         return BoundsAnswer::refused(fault);
     }
-    let fault = store::store_fault(store);
+    let fault = store_check::store_fault(store);
     if fault != 0 {
         return BoundsAnswer::refused(fault);
     }

@@ -14,7 +14,7 @@ use Rattle.graph.specs.Graph.{Graph}
 use Rattle.graph.specs.Store.{graphIn, storeFault}
 use Rattle.query.specs.Query.{Query}
 use Rattle.query.specs.File.{queryOf, queryFault}
-use Rattle.execution.specs.Run.{counted}
+use Rattle.run_spec.specs.Run.{counted}
 use Rattle.plan_spectrum.specs.Orders.{orderings}
 use Rattle.plan_spectrum.specs.Spectrum.{maxSpectrum, entries, limitFault, orderingsFault, orderingsAnswer, orderingsWords}
 use Rattle.plan_spectrum.specs.inner.Parts.{Put, laid, Listed, AllRun, Settled}

@@ -18,8 +18,8 @@ use Rattle.query_file.proofs.FileLaws.{query-connected}
 use Rattle.matching.proofs.Cuts.{proper}
 use Rattle.plan.specs.Plan.{extend}
 use Rattle.plan.specs.Check.{rulesFault}
-use Rattle.execution.proofs.Accepted.{edges-proper}
-use Rattle.ordering.specs.Order.{scanEdge, extendOrder, drawnOperators}
+use Rattle.run_spec.proofs.Accepted.{edges-proper}
+use Rattle.plan_order.specs.Order.{scanEdge, extendOrder, drawnOperators}
 use Rattle.planner.proofs.Drawing.{Sized, read-sized, scan-below, order-below, drawn-rules}
 use Rattle.plan_spectrum.specs.Orders.{orderings, planOf, has, accepted, drawnOrdering}
 use Rattle.plan_spectrum.specs.Spectrum.{costOf}

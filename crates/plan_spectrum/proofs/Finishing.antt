@@ -13,7 +13,7 @@ use Rattle.query.specs.inner.Struct.{queryIn}
 use Rattle.query.specs.declared.Query.{Query as QueryStruct}
 use Rattle.query_file.proofs.FileLaws.{query-held}
 use Rattle.query_file.proofs.Structs.{file-struct, file-labels}
-use Rattle.execution.proofs.Accepted.{edges-proper}
+use Rattle.run_spec.proofs.Accepted.{edges-proper}
 use Rattle.planner.proofs.Drawing.{read-sized}
 use Rattle.plan_spectrum.specs.Orders.{orderings}
 use Rattle.plan_spectrum.specs.Spectrum.{maxSpectrum, entries}

@@ -23,7 +23,7 @@ use Rattle.plan.specs.Plan.{Operator}
 use Rattle.plan.specs.inner.Struct.{operatorsIn}
 use Rattle.plan.specs.declared.Plan.{Plan as PlanStruct}
 use Rattle.rows.proofs.Laid.{wide, length-flatten}
-use Rattle.execution.specs.Run.{planCost}
+use Rattle.run_spec.specs.Run.{planCost}
 use Rattle.executor.specs.declared.counting.Tally.{Tally}
 use Rattle.executor.specs.inner.Tallied.{countFault, Tallied}
 use Rattle.executor.specs.inner.Running.{Runs}

@@ -17,10 +17,10 @@ use Rattle.query.specs.File.{queryOf, queryFault}
 use Rattle.plan.specs.Check.{ruleFault}
 use Rattle.matching.specs.Row.{members, pack, look}
 use Rattle.matching.specs.Match.{fits, holds, allows, permits}
-use Rattle.operators.specs.Scan.{scans, scanRows}
-use Rattle.operators.specs.Extend.{candidates, grown, sameUsed, reuses, extendAfter, extendRows, portionFor, rowCost, costAfter, extendCost}
-use Rattle.execution.specs.Pile.{longestSet, apply, costOf, buildOf, probeOf, pileAfter, topRows, topNeed, stepOf, stepsFrom}
-use Rattle.execution.specs.Run.{planRows, planCost, planBuild, planProbe, planNeed, planNumbers, planPasses}
+use Rattle.operator_spec.specs.Scan.{scans, scanRows}
+use Rattle.operator_spec.specs.Extend.{candidates, grown, sameUsed, reuses, extendAfter, extendRows, portionFor, rowCost, costAfter, extendCost}
+use Rattle.run_spec.specs.Pile.{longestSet, apply, costOf, buildOf, probeOf, pileAfter, topRows, topNeed, stepOf, stepsFrom}
+use Rattle.run_spec.specs.Run.{planRows, planCost, planBuild, planProbe, planNeed, planNumbers, planPasses}
 use Rattle.cases.specs.Cases.{fileG, fileK, fileQ, fileX}
 use Rattle.plan_spectrum.specs.Orders.{ordersFrom, orderings, planOf}
 use Rattle.plan_spectrum.specs.Spectrum as spectrum

@@ -7,8 +7,8 @@ use lib.ListN.{length, getD}
 use Rattle.lists.specs.Lists.{bit, any, countIf, same}
 use Rattle.graph.specs.Graph.{Graph}
 use Rattle.query.specs.File.{queryOf, queryFault}
-use Rattle.execution.specs.Run.{planCost}
-use Rattle.ordering.specs.Order.{drawnOperators}
+use Rattle.run_spec.specs.Run.{planCost}
+use Rattle.plan_order.specs.Order.{drawnOperators}
 use Rattle.plan_spectrum.specs.Orders.{orderings, planOf, accepted, drawnOrdering, inOrder}
 use Rattle.plan_spectrum.specs.Spectrum.{maxSpectrum, costOf, costWords}
 

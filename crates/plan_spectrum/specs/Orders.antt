@@ -9,7 +9,7 @@ use Rattle.lists.specs.Lists.{range, all, keep}
 use Rattle.query.specs.Query.{Query, VertexSet, edgeAt}
 use Rattle.plan.specs.Plan.{Operator, scan, extend, join, ends, plus}
 use Rattle.plan.specs.Check.{ruleFault, rulesFault}
-use Rattle.ordering.specs.Order.{scanEdge, extendOrder}
+use Rattle.plan_order.specs.Order.{scanEdge, extendOrder}
 use Rattle.graph.specs.Graph.{Graph}
 
 -- An extend by v of rows that cover S breaks no rule of a plan.

@@ -10,7 +10,7 @@ use Rattle.graph.specs.Graph.{Graph}
 use Rattle.graph.specs.Store.{graphIn, storeFault}
 use Rattle.query.specs.Query.{Query}
 use Rattle.query.specs.File.{queryOf, queryFault}
-use Rattle.execution.specs.Run.{counted, planCost, planNeed, planPasses}
+use Rattle.run_spec.specs.Run.{counted, planCost, planNeed, planPasses}
 use Rattle.plan_spectrum.specs.Orders.{orderings, planOf}
 use Rattle.plan_spectrum.specs.declared.OrderingsAnswer.{OrderingsAnswer}
 

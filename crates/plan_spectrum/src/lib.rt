@@ -16,8 +16,8 @@ ghost use Rattle.graph.specs.Store.{graphIn, storeFault};
 ghost use Rattle.query.specs.inner.Struct.{queryIn};
 ghost use Rattle.plan.specs.Plan.{maxOperators};
 ghost use Rattle.plan.specs.inner.Struct.{operatorsIn};
-ghost use Rattle.operators.specs.Limit.{maxWords};
-ghost use Rattle.execution.specs.Run.{runScratch};
+ghost use Rattle.operator_spec.specs.Limit.{maxWords};
+ghost use Rattle.run_spec.specs.Run.{runScratch};
 ghost use Rattle.plan_spectrum.specs.Orders.{planOf};
 ghost use Rattle.plan_spectrum.specs.Spectrum.{orderingsAnswer, orderingsWords};
 ghost use Rattle.plan_spectrum.specs.Claims.{EveryOrderingListed};
@@ -122,7 +122,7 @@ fn orderings_counted(
     if OrderingsAnswer::MAX_VERTICES < q.vertices {
         return OrderingsAnswer::refused(31);
     }
-    let fault = store::store_fault(store);
+    let fault = store_check::store_fault(store);
     if fault != 0 {
         return OrderingsAnswer::refused(fault);
     }

@@ -30,16 +30,16 @@ use Rattle.plan_file.specs.inner.Parts.{planFileFault}
 use Rattle.plan_file.proofs.Accepted.{check-rules}
 use Rattle.lists.proofs.Maps.{length-image}
 use Rattle.matching.proofs.Cuts.{proper, proper-source, proper-target, proper-ends}
-use Rattle.execution.specs.declared.Record.{Record}
-use Rattle.execution.specs.Run.{runAnswer, runList, runRecords}
-use Rattle.execution.specs.Complete.{CompleteRun}
-use Rattle.execution.proofs.Accepted.{edges-proper}
-use Rattle.execution.proofs.Demand.{spelled, run-lists-every-match}
-use Rattle.ordering.specs.Order.{scanEdge, scanned, extendsFrom, extendOrder, drawnOperators}
+use Rattle.run_spec.specs.declared.Record.{Record}
+use Rattle.run_spec.specs.Run.{runAnswer, runList, runRecords}
+use Rattle.run_spec.specs.Complete.{CompleteRun}
+use Rattle.run_spec.proofs.Accepted.{edges-proper}
+use Rattle.run_spec.proofs.Demand.{spelled, run-lists-every-match}
+use Rattle.plan_order.specs.Order.{scanEdge, scanned, extendsFrom, extendOrder, drawnOperators}
 use Rattle.planner.specs.Draw.{planBits, drawnPlan, drawFault, drawAnswer, drawBytes}
-use Rattle.ordering.specs.inner.Counts.{Drawable}
+use Rattle.plan_order.specs.inner.Counts.{Drawable}
 use Rattle.planner.specs.Complete.{planIn, PassesCheck, DrawnListsEveryMatch}
-use Rattle.ordering.proofs.Choosing.{choices}
+use Rattle.plan_order.proofs.Choosing.{choices}
 use Rattle.planner.proofs.Ordering.{count-ends, length-extends, extends-below, extends-pass}
 use Rattle.planner.proofs.Packing.{length-file, operators-read, file-sound}
 

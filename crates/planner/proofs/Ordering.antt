@@ -21,8 +21,8 @@ use Rattle.query.specs.Connected.{Beside}
 use Rattle.query.proofs.Connected.{beside-counted}
 use Rattle.plan.specs.Plan.{extend, ends, plus}
 use Rattle.plan.specs.Check.{ruleFault, covered, endFault, rulesFault}
-use Rattle.ordering.specs.Order.{degree, nextVertex, extendsFrom}
-use Rattle.ordering.proofs.Choosing.{chosen-below, most-chosen}
+use Rattle.plan_order.specs.Order.{degree, nextVertex, extendsFrom}
+use Rattle.plan_order.proofs.Choosing.{chosen-below, most-chosen}
 
 -- ---- one extend
 

@@ -18,7 +18,7 @@ use Rattle.query.specs.Query.{Query, VertexSet}
 use Rattle.query.specs.inner.Mask.{inMask, MaskOf, only}
 use Rattle.plan.specs.Plan.{plus}
 use Rattle.plan.proofs.Sets.{plus-set}
-use Rattle.ordering.specs.Order.{nextVertex, extendsFrom}
+use Rattle.plan_order.specs.Order.{nextVertex, extendsFrom}
 use Rattle.planner.specs.Draw.{extendBits, planBits}
 use Rattle.planner.proofs.Ordering.{length-extends}
 use Rattle.planner.proofs.Packing.{length-extendBits, length-planBits}

@@ -12,7 +12,7 @@ use Rattle.graph.specs.Graph.{covers}
 use Rattle.graph.specs.Store.{offsets, entries, storeOf, graphIn, wellFormed, storeFault}
 use Rattle.query.specs.Query.{reached, connected}
 use Rattle.query.specs.File.{queryOf, queryFault}
-use Rattle.ordering.specs.Order.{chosen, edgesOf, scanEdge, degree, nextVertex, extendsFrom}
+use Rattle.plan_order.specs.Order.{chosen, edgesOf, scanEdge, degree, nextVertex, extendsFrom}
 use Rattle.planner.specs.Draw.{planBits, drawnPlan, drawFault, drawBytes}
 
 -- G: edges of label 1: 0→1, 0→2, 1→2, 1→3, 2→3.

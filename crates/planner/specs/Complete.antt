@@ -9,11 +9,11 @@ use Rattle.graph.specs.File.{graphOf}
 use Rattle.graph.specs.Store.{graphIn, LoadsTo}
 use Rattle.query.specs.File.{queryOf}
 use Rattle.plan.specs.File.{operatorsOf, checkFault}
-use Rattle.execution.specs.declared.Record.{Record}
-use Rattle.execution.specs.Run.{runAnswer, runList, runRecords}
-use Rattle.execution.specs.Complete.{CompleteRun}
+use Rattle.run_spec.specs.declared.Record.{Record}
+use Rattle.run_spec.specs.Run.{runAnswer, runList, runRecords}
+use Rattle.run_spec.specs.Complete.{CompleteRun}
 use Rattle.planner.specs.declared.DrawAnswer.{DrawAnswer}
-use Rattle.ordering.specs.Order.{drawnOperators}
+use Rattle.plan_order.specs.Order.{drawnOperators}
 use Rattle.planner.specs.Draw.{drawFault, drawAnswer, drawBytes}
 
 -- The plan that was drawn: as many of the lent bytes as the answer says.

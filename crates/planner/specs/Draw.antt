@@ -11,7 +11,7 @@ use Rattle.graph.specs.Store.{graphIn, storeFault}
 use Rattle.query.specs.Query.{Query}
 use Rattle.query.specs.File.{queryOf, queryFault}
 use Rattle.plan.specs.Plan.{scanKind, extendKind}
-use Rattle.ordering.specs.Order.{scanEdge, extendOrder}
+use Rattle.plan_order.specs.Order.{scanEdge, extendOrder}
 use Rattle.planner.specs.declared.DrawAnswer.{DrawAnswer}
 
 -- The bits of a scan and of extends: 'operator count (5 bits ..), then operators: kind (2 bits); 0 scan with a query edge's index (5), 1

@@ -9,7 +9,7 @@ ghost use Rattle.graph.specs.Store.{graphIn, storeFault};
 ghost use Rattle.query.specs.inner.Struct.{queryIn};
 ghost use Rattle.planner.specs.Draw.{drawAnswer, drawBytes};
 ghost use Rattle.planner.specs.Complete.{PassesCheck};
-ghost use Rattle.ordering.specs.inner.Counts.{Drawable};
+ghost use Rattle.plan_order.specs.inner.Counts.{Drawable};
 ghost use Rattle.planner.specs.inner.Parts.{Drawn};
 
 // What drawing a plan answers: a refusal with 0, or 0 with the plan's length in bytes.
@@ -31,7 +31,7 @@ fn draw_accepted(store: &[u32], q: Query, plan: &mut [u8]) -> DrawAnswer
     requires { ⌜ Drawable q × (storeFault (now store) ≡ 0) ⌝ }
     ensures { λ r. ⌜ Drawn (graphIn (now (store .entry))) (queryIn q) (now (plan .entry)) (now (plan .exit)) r ⌝ }
 {
-    let edge = ordering::scan_edge(q, &ordering::edge_counts(store));
+    let edge = plan_order::scan_edge(q, &plan_order::edge_counts(store));
     let bytes = pack::plan_bytes(q.vertices);
     if plan.len() < bytes {
         return DrawAnswer::refused(24);
@@ -50,7 +50,7 @@ pub fn draw_plan(store: &[u32], query: &[u8], plan: &mut [u8]) -> DrawAnswer
     if fault != 0 {
         return DrawAnswer::refused(fault);
     }
-    let fault = store::store_fault(store);
+    let fault = store_check::store_fault(store);
     if fault != 0 {
         return DrawAnswer::refused(fault);
     }

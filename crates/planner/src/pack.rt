@@ -1,7 +1,7 @@
 // The drawn plan's file: the operator count (5 bits), the scan's kind (2) and edge (5), then each extend's kind (2) and vertex (3).
-use ordering::next_vertex;
 use packed::put_field;
 use plan::Plan;
+use plan_order::next_vertex;
 use query::Query;
 use query::set;
 ghost use mathlib.Core.Path.{_≡_};
@@ -15,9 +15,9 @@ ghost use Rattle.query.specs.Query.{edgeAt};
 ghost use Rattle.query.specs.inner.Struct.{queryIn};
 ghost use Rattle.query.specs.inner.Mask.{inMask};
 ghost use Rattle.plan.specs.Plan.{ends};
-ghost use Rattle.ordering.specs.Order.{extendsFrom};
+ghost use Rattle.plan_order.specs.Order.{extendsFrom};
 ghost use Rattle.planner.specs.Draw.{scanBits, extendBits, planBits};
-ghost use Rattle.ordering.specs.inner.Counts.{Drawable};
+ghost use Rattle.plan_order.specs.inner.Counts.{Drawable};
 
 // The bits of the count and the scan, and those of an extend.
 const SCAN_BITS: usize = 12;

@@ -1,7 +1,7 @@
 // The records of a run: kept by value while it runs, stored in the lent ones when it is accepted.
-use execution::Record;
-use execution::RunAnswer;
 use plan::Plan;
+use run_spec::Record;
+use run_spec::RunAnswer;
 ghost use mathlib.Core.Path.{_≡_};
 ghost use mathlib.Core.List.{_++_};
 ghost use Prim.Native.Nat.{_≤_, _<_};

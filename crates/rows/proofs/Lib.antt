@@ -1,6 +1,6 @@
 -- Laws of rows in the code.
 pub mod Lists
 pub mod Widths
-pub mod Opening
+pub mod Unpacking
 pub mod Writing
 pub mod Laid

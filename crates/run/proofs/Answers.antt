@@ -15,12 +15,12 @@ use Rattle.graph.specs.Store.{graphIn, storeFault}
 use Rattle.query.specs.File.{queryOf}
 use Rattle.plan.specs.Plan.{maxOperators}
 use Rattle.plan.specs.File.{operatorsOf, checkFault}
-use Rattle.execution.specs.declared.Record.{Record}
-use Rattle.execution.specs.declared.RunAnswer.{RunAnswer}
-use Rattle.execution.specs.Run.{counted, planRecords, runFault, runAnswer, runList, runRecords, runScratch}
-use Rattle.execution.specs.Complete.{ListsEveryMatch}
-use Rattle.execution.proofs.Records.{count-records}
-use Rattle.execution.proofs.Demand.{run-lists-every-match}
+use Rattle.run_spec.specs.declared.Record.{Record}
+use Rattle.run_spec.specs.declared.RunAnswer.{RunAnswer}
+use Rattle.run_spec.specs.Run.{counted, planRecords, runFault, runAnswer, runList, runRecords, runScratch}
+use Rattle.run_spec.specs.Complete.{ListsEveryMatch}
+use Rattle.run_spec.proofs.Records.{count-records}
+use Rattle.run_spec.proofs.Demand.{run-lists-every-match}
 use Rattle.executor.specs.inner.Answered.{roomFault, recordsAt, Records, Answered}
 use Rattle.run.specs.inner.Settled.{Settles}
 use Rattle.records.specs.declared.Recorded.{Recorded}

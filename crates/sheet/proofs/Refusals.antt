@@ -11,7 +11,7 @@ use lib.ListN.{length, take}
 use borrow.Author.Tests.{ltb-false, lt-ltb, le-ltb}
 use Rattle.lists.specs.Lists.{any}
 use Rattle.lists.proofs.Tests.{or-false-l, or-false-r}
-use Rattle.execution.specs.Run.{counted}
+use Rattle.run_spec.specs.Run.{counted}
 use Rattle.sheet.specs.Page.{maxRows, maxWord, badRows}
 
 -- The product of n and the rows fits a word of 64 bits.

@@ -9,7 +9,7 @@ use Rattle.lists.specs.Lists.{any}
 use Rattle.lists.specs.Refusal.{refuse, first, answered}
 use Rattle.query.specs.File.{minVertices, maxVertices}
 use Rattle.matching.specs.Row.{rowsOf}
-use Rattle.execution.specs.Run.{counted}
+use Rattle.run_spec.specs.Run.{counted}
 use Rattle.sheet.specs.declared.PageAnswer.{PageAnswer}
 use Rattle.sheet.specs.Decimal.{blank, lineFeed, decimal, aligned}
 

@@ -4,8 +4,8 @@ mod large;
 mod lines;
 mod number;
 
-use execution::RunAnswer;
 use query::Query;
+use run_spec::RunAnswer;
 ghost use mathlib.Core.Path.{_≡_};
 ghost use mathlib.Core.List.{_++_};
 ghost use Prim.Native.Nat.{_-_, _≤_, min};

@@ -13,9 +13,9 @@ use Rattle.lists.proofs.All.{all-at, all-getD, getD-all}
 use Rattle.lists.proofs.Sort.{ascending-at, at-ascending}
 use Rattle.adjacency.specs.inner.Side.{listOn}
 use Rattle.adjacency.specs.inner.Portion.{member}
-use Rattle.short_lists.specs.inner.Check.{unless, mirror, entryFits, listFits, sideFits, listMirrored, sideMirrored}
+use Rattle.store_reverse.specs.inner.Check.{unless, reverse, entryFits, listFits, sideFits, listReversed, sideReversed}
 use Rattle.store_step.specs.inner.Walk.{before, sidesAgree, Refutes}
-use Rattle.short_lists.proofs.Loops.{answer-fails}
+use Rattle.store_reverse.proofs.Loops.{answer-fails}
 
 -- ---- a list
 
@@ -71,63 +71,63 @@ none-member x (y ∷ s) h = or-false (eqb y x) (member x s) (ne-eqb y x (h 0 (om
 
 module _ (store : List ℕ) (n other v : ℕ) (s : List ℕ) (i : ℕ) (l : i < length s) where
   -- It is out of order or range.
-  pub entry-breaks : entryFits n (before s i) (getD s i 0) ≡ false → (listFits n s && listMirrored store n other v s) ≡ false
+  pub entry-breaks : entryFits n (before s i) (getD s i 0) ≡ false → (listFits n s && listReversed store n other v s) ≡ false
   entry-breaks e =
-      fails (listFits n s && listMirrored store n other v s)
-      (λ t. clash (fits-at n s (and-l (listFits n s) (listMirrored store n other v s) t) i l) e)
+      fails (listFits n s && listReversed store n other v s)
+      (λ t. clash (fits-at n s (and-l (listFits n s) (listReversed store n other v s) t) i l) e)
 
-  -- It lacks its mirror.
-  pub mirror-lacks : member (mirror v (getD s i 0)) (listOn store n other (getD s i 0 % 65536)) ≡ false
-      → (listFits n s && listMirrored store n other v s) ≡ false
-  unfolding listMirrored
-  mirror-lacks e =
-      fails (listFits n s && listMirrored store n other v s)
+  -- It lacks its reverse.
+  pub reverse-lacks : member (reverse v (getD s i 0)) (listOn store n other (getD s i 0 % 65536)) ≡ false
+      → (listFits n s && listReversed store n other v s) ≡ false
+  unfolding listReversed
+  reverse-lacks e =
+      fails (listFits n s && listReversed store n other v s)
       (λ t.
       clash
-      (all-getD (λ (k : ℕ). member (mirror v k) (listOn store n other (k % 65536))) s i 0 l (and-r (listFits n s) (listMirrored store n other v s) t)) e)
+      (all-getD (λ (k : ℕ). member (reverse v k) (listOn store n other (k % 65536))) s i 0 l (and-r (listFits n s) (listReversed store n other v s) t)) e)
 
   -- The answers to the tests of both.
   module _ {r : ℕ} where
     pub entry-refutes : {last : ℕ} → last ≡ before s i → r ≡ unless (entryFits n last (getD s i 0)) → (r ≡ 0 → ⊥)
-        → Refutes r (listFits n s && listMirrored store n other v s)
+        → Refutes r (listFits n s && listReversed store n other v s)
     entry-refutes {last} q e h one =
         let f : entryFits n last (getD s i 0) ≡ false = answer-fails (entryFits n last (getD s i 0)) e h in
         (e ∙ ap unless f, entry-breaks (ap (λ (k : ℕ). entryFits n k (getD s i 0)) (sym q) ∙ f))
 
-    pub mirror-refutes : {list : List ℕ} → list ≡ listOn store n other (getD s i 0 % 65536) → Refutes r (member (mirror v (getD s i 0)) list)
-        → Refutes r (listFits n s && listMirrored store n other v s)
-    mirror-refutes q g one = (g one .0, mirror-lacks (ap (member (mirror v (getD s i 0))) (sym q) ∙ g one .1))
+    pub reverse-refutes : {list : List ℕ} → list ≡ listOn store n other (getD s i 0 % 65536) → Refutes r (member (reverse v (getD s i 0)) list)
+        → Refutes r (listFits n s && listReversed store n other v s)
+    reverse-refutes q g one = (g one .0, reverse-lacks (ap (member (reverse v (getD s i 0))) (sym q) ∙ g one .1))
 
 -- ---- both sides
 
 module _ (store : List ℕ) (n side other : ℕ) where
-  -- A list that does not fit, or is not mirrored.
-  pub list-breaks : (v : ℕ) → v < n → (listFits n (listOn store n side v) && listMirrored store n other v (listOn store n side v)) ≡ false
+  -- A list that does not fit, or is not reversed.
+  pub list-breaks : (v : ℕ) → v < n → (listFits n (listOn store n side v) && listReversed store n other v (listOn store n side v)) ≡ false
       → sidesAgree store n side other ≡ false
-  unfolding sidesAgree sideFits sideMirrored
+  unfolding sidesAgree sideFits sideReversed
   list-breaks v l e = fails (sidesAgree store n side other) go
     where
       fit : ℕ → Bool
       fit u = listFits n (listOn store n side u)
 
-      mirrored : ℕ → Bool
-      mirrored u = listMirrored store n other u (listOn store n side u)
+      reversed : ℕ → Bool
+      reversed u = listReversed store n other u (listOn store n side u)
 
       go : sidesAgree store n side other ≡ true → ⊥
       go t =
           clash
-          (and-both (fit v) (mirrored v) (all-at fit n (and-l (all fit (range n)) _ t) v l)
-          (all-at mirrored n (and-l (all mirrored (range n)) _ (and-r (all fit (range n)) _ t)) v l)) e
+          (and-both (fit v) (reversed v) (all-at fit n (and-l (all fit (range n)) _ t) v l)
+          (all-at reversed n (and-l (all reversed (range n)) _ (and-r (all fit (range n)) _ t)) v l)) e
 
-  pub agree : sideFits store n side ≡ true → sideMirrored store n side other ≡ true → sideFits store n other ≡ true → sidesAgree store n side other ≡ true
+  pub agree : sideFits store n side ≡ true → sideReversed store n side other ≡ true → sideFits store n other ≡ true → sidesAgree store n side other ≡ true
   unfolding sidesAgree
-  agree a b c = and-both (sideFits store n side) (sideMirrored store n side other && sideFits store n other) a (and-both (sideMirrored store n side other) (sideFits store n other) b c)
+  agree a b c = and-both (sideFits store n side) (sideReversed store n side other && sideFits store n other) a (and-both (sideReversed store n side other) (sideFits store n other) b c)
 
-  pub agreed : sidesAgree store n side other ≡ true → (sideFits store n side ≡ true) × (sideMirrored store n side other ≡ true) × (sideFits store n other ≡ true)
+  pub agreed : sidesAgree store n side other ≡ true → (sideFits store n side ≡ true) × (sideReversed store n side other ≡ true) × (sideFits store n other ≡ true)
   unfolding sidesAgree
   agreed t =
-      let u : (sideMirrored store n side other && sideFits store n other) ≡ true = and-r (sideFits store n side) (sideMirrored store n side other && sideFits store n other) t in (
-        and-l (sideFits store n side) (sideMirrored store n side other && sideFits store n other) t,
-        and-l (sideMirrored store n side other) (sideFits store n other) u,
-        and-r (sideMirrored store n side other) (sideFits store n other) u,
+      let u : (sideReversed store n side other && sideFits store n other) ≡ true = and-r (sideFits store n side) (sideReversed store n side other && sideFits store n other) t in (
+        and-l (sideFits store n side) (sideReversed store n side other && sideFits store n other) t,
+        and-l (sideReversed store n side other) (sideFits store n other) u,
+        and-r (sideReversed store n side other) (sideFits store n other) u,
       )

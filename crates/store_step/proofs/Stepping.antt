@@ -6,7 +6,7 @@ use Prim.Native.Nat.{ℕ, _+_, _*_, _/_, _≤_, _<_}
 use native.Mathlib.Omega.{arith}
 use lib.ListN.{length, getD, set, replicate, length-replicate, getD-replicate}
 use Rattle.adjacency.specs.inner.Side.{listOn}
-use Rattle.short_lists.specs.inner.Check.{listFits, listMirrored}
+use Rattle.store_reverse.specs.inner.Check.{listFits, listReversed}
 use Rattle.store_step.specs.inner.Walk.{sidesAgree, Refutes, Outcome, Matched, WalkedIn, Sides, Blocks, Tables, Labelled, StepFrom}
 use Rattle.store_step.proofs.Agreeing.{list-breaks}
 use Rattle.store_step.proofs.Walking.{walked-on, walked-next}
@@ -41,14 +41,14 @@ module _ {store : List ℕ} {n side other : ℕ} {back : List ℕ} {base v : ℕ
       (subst (λ (k : ℕ). Matched n v base list back k i cursors new) e m))
       (f .done-fit)
 
-  pub verdict-outcome : {H : Type 0} {r : ℕ} → H → Refutes r (listFits n list && listMirrored store n other v list)
+  pub verdict-outcome : {H : Type 0} {r : ℕ} → H → Refutes r (listFits n list && listReversed store n other v list)
       → Outcome r (sidesAgree store n side other) H
   verdict-outcome {H} {r} h g =
       record {
         passed = λ e. h;
         refutes =
             λ no one.
-            (g one .0, list-breaks store n side other v (f .vertex-in) (ap (λ (l : List ℕ). listFits n l && listMirrored store n other v l) (sym q) ∙ g one .1));
+            (g one .0, list-breaks store n side other v (f .vertex-in) (ap (λ (l : List ℕ). listFits n l && listReversed store n other v l) (sym q) ∙ g one .1));
       }
 
 -- ---- the tables

@@ -10,7 +10,7 @@ use lib.Dec.{eqb, ltb}
 use lib.ListN.{length, getD, set}
 use lib.Seq.{getD-set-same, getD-set-other}
 use borrow.Author.Tests.{eqb-true, eqb-false, ltb-true, ltb-false}
-use Rattle.short_lists.specs.inner.Check.{mirror}
+use Rattle.store_reverse.specs.inner.Check.{reverse}
 use Rattle.store_step.specs.inner.Walk.{before, MatchedEntry, Matched, Word, Arrived, Done, Walked}
 
 -- A later `next` holds too.
@@ -71,7 +71,7 @@ module _ {n : ℕ} {starts : ℕ → ℕ} {back : List ℕ} {lists : ℕ → Lis
   old-entry : (u j : ℕ) → Done n starts back cursors u (lists u) j → Done n starts back new u (lists u) j
   old-entry u j e = record { rises = e .rises; narrow = e .narrow; neighbour = e .neighbour; arrived = still (e .arrived) }
 
-  -- The entries of v that are done have lower labels: their mirrors are below this vertex's words.
+  -- The entries of v that are done have lower labels: their reverses are below this vertex's words.
   below-base : (j : ℕ) → j < getD done v 0 → getD (lists v) j 0 < base
   below-base j l =
       let e = w .entries v j h l in
@@ -100,7 +100,7 @@ module _ {n : ℕ} {starts : ℕ → ℕ} {back : List ℕ} {lists : ℕ → Lis
               passed = omega (arith, e .moved, ap (λ (k : ℕ). getD new k 0) led, ap (λ (k : ℕ). getD cursors k 0) led);
               word =
                   ap (λ (k : ℕ). getD back (getD cursors k 0) 0) led ∙ e .word
-                  ∙ (let z : base + v ≡ mirror v (getD (lists v) j 0) = omega (arith, e .low, e .high) in z);
+                  ∙ (let z : base + v ≡ reverse v (getD (lists v) j 0) = omega (arith, e .low, e .high) in z);
             };
       }
     where

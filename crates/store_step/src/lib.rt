@@ -9,7 +9,7 @@ ghost use lib.ListN.{length};
 ghost use Rattle.graph.specs.Graph.{maxGraphVertices, maxGraphEdges, entrySpan, entryEnd};
 ghost use Rattle.adjacency.specs.inner.Side.{Within};
 ghost use Rattle.adjacency.specs.inner.Portion.{member};
-ghost use Rattle.short_lists.specs.inner.Check.{unless, entryFits, listFits, listMirrored};
+ghost use Rattle.store_reverse.specs.inner.Check.{unless, entryFits, listFits, listReversed};
 ghost use Rattle.store_step.specs.inner.Walk.{before, Refutes, Matched, Sides, StepFrom, Stepped};
 
 // It is not known whether the sides agree.
@@ -78,12 +78,12 @@ fn lacks(list: &[u32], x: u32) -> u32
 }
 
 // Of an entry that is not as it should be at its place: 19 where it is out of order or range, or lacks its
-// mirror; else undecided.
+// reverse; else undecided.
 fn verdict(store: &[u32], n: usize, other: usize, v: usize, list: &[u32], i: usize) -> u32
     requires { ⌜ ((t : ℕ) → t < n → Within (now store) n other t)
         × (v < n) × (n ≤ maxGraphVertices) × (i < length (now list)) ⌝ }
     ensures { λ r. ⌜ Refutes r
-        (listFits n (now (list .entry)) && listMirrored (now (store .entry)) n other v (now (list .entry))) ⌝ }
+        (listFits n (now (list .entry)) && listReversed (now (store .entry)) n other v (now (list .entry))) ⌝ }
 {
     let entry = list[i];
     let fault = entry_fault(entry, entry_before(list, i), n);
@@ -91,12 +91,12 @@ fn verdict(store: &[u32], n: usize, other: usize, v: usize, list: &[u32], i: usi
         return fault;
     }
     let x = (entry % Graph::SPAN) as usize;
-    let mirror = entry - entry % Graph::SPAN + v as u32;
-    lacks(neighbours(store, n, other, x), mirror)
+    let reverse = entry - entry % Graph::SPAN + v as u32;
+    lacks(neighbours(store, n, other, x), reverse)
 }
 
 // The entries of v's list from `from` on that are of the label whose entries begin at `base`, as far as they
-// ascend, lead to a vertex below n, and stand mirrored at that vertex's cursor, which moves on: the index
+// ascend, lead to a vertex below n, and stand reversed at that vertex's cursor, which moves on: the index
 // after the last.
 fn matched(
     list: &[u32],
@@ -113,7 +113,7 @@ fn matched(
         (now (cursors .entry)) (now (cursors .exit)) ⌝ }
 {
     let limit = base + Graph::SPAN;
-    let mirror = base + v;
+    let reverse = base + v;
     let mut last = base - 1;
     let mut i = from;
     while i < list.len() {
@@ -132,7 +132,7 @@ fn matched(
         if back.len() <= at {
             return i;
         }
-        if back[at] != mirror {
+        if back[at] != reverse {
             return i;
         }
         cursors[x] = at as u32 + 1;

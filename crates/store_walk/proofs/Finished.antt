@@ -1,5 +1,5 @@
 -- The start and the end of the walk: with every entry done and every cursor at the end of its list, both sides fit, and the first is
--- mirrored on the second. Assumes nothing.
+-- reversed on the second. Assumes nothing.
 use mathlib.Core.Path.{_≡_, refl, sym, _∙_, ap}
 use mathlib.Core.Bool.{Bool, true, false}
 use mathlib.Core.List.{List, _++_}
@@ -12,9 +12,9 @@ use borrow.Author.Tests.{eqb-true, eqb-false}
 use Rattle.lists.proofs.All.{all-range, getD-all}
 use Rattle.adjacency.specs.inner.Side.{listOn, Within}
 use Rattle.adjacency.specs.inner.Portion.{member}
-use Rattle.short_lists.specs.inner.Check.{unless, mirror, listFits, sideFits, listMirrored, sideMirrored}
-use Rattle.short_lists.proofs.Loops.{passes, refused}
-use Rattle.short_lists.proofs.Offsets.{Rising, offsets-rising, offsets-within, offset-le}
+use Rattle.store_reverse.specs.inner.Check.{unless, reverse, listFits, sideFits, listReversed, sideReversed}
+use Rattle.store_reverse.proofs.Loops.{passes, refused}
+use Rattle.store_reverse.proofs.Offsets.{Rising, offsets-rising, offsets-within, offset-le}
 use Rattle.store_step.specs.inner.Walk.{before, sidesAgree, Outcome, Decides, Word, Arrived, Done, WalkedIn, BothRise, Sides, Ended}
 use Rattle.store_step.proofs.Agreeing.{at-fits, member-at, agree}
 
@@ -129,25 +129,25 @@ module _ {store : List ℕ} {n side other : ℕ} {back cursors done : List ℕ} 
       all-range (λ (v : ℕ). listFits n (listOn store n side v)) n
       (λ v l. at-fits n (listOn store n side v) (λ j k. let d = done-at v l j k in (d .rises, d .narrow, d .neighbour)))
 
-  arrived-member : (v k : ℕ) → k % 65536 < n → Arrived start back cursors v k → member (mirror v k) (listOn store n other (k % 65536)) ≡ true
+  arrived-member : (v k : ℕ) → k % 65536 < n → Arrived start back cursors v k → member (reverse v k) (listOn store n other (k % 65536)) ≡ true
   arrived-member v k l a =
       let t : ℕ = k % 65536 in
       let inside : a .place - start t < length (listOn store n other t) =
       omega (arith, a .begins, a .passed, at-end t l, list-long (s .others t l)) in
-      member-at (mirror v k) (listOn store n other t) (a .place - start t) inside
+      member-at (reverse v k) (listOn store n other t) (a .place - start t) inside
       (other-at t l (a .place - start t) inside
       ∙ ap (λ (i : ℕ). getD back i 0) (let e : start t + (a .place - start t) ≡ a .place = omega (arith, a .begins) in e) ∙ a .word)
 
-  mirrored : sideMirrored store n side other ≡ true
-  unfolding sideMirrored listMirrored
-  mirrored =
-      all-range (λ (v : ℕ). listMirrored store n other v (listOn store n side v)) n
+  reversed : sideReversed store n side other ≡ true
+  unfolding sideReversed listReversed
+  reversed =
+      all-range (λ (v : ℕ). listReversed store n other v (listOn store n side v)) n
       (λ v l.
-      getD-all (λ (k : ℕ). member (mirror v k) (listOn store n other (k % 65536))) (listOn store n side v) 0
+      getD-all (λ (k : ℕ). member (reverse v k) (listOn store n other (k % 65536))) (listOn store n side v) 0
       (λ j k. let d = done-at v l j k in arrived-member v (getD (listOn store n side v) j 0) (d .neighbour) (d .arrived)))
 
   pub sides-agree : 0 ≡ unless (sidesAgree store n side other)
-  sides-agree = passes (agree store n side other fits mirrored other-fits)
+  sides-agree = passes (agree store n side other fits reversed other-fits)
 
 -- The tests of the cursors and of the entries, by the words that they read.
 module _ {store : List ℕ} {n m side other : ℕ} (r : BothRise store n m side other) where

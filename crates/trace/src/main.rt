@@ -1,10 +1,10 @@
 // trace: loads the graph file g.bin of the folder it runs in, runs the plan p.bin of the query q.bin over it with the cache on,
 // and prints the rows, or the refusal. It reads, calls and prints; what it prints is computed by `load` and `run`.
 ghost use Rattle.io.specs.Counts.{Counts};
-use execution::Record;
 use lending::Lending;
 use libc::STDOUT_FILENO;
 use plan::Plan;
+use run_spec::Record;
 
 // The longest file that is taken, in bytes. A buffer holds one byte more, by which a longer file is known.
 const MAX_BYTES: usize = 8192;

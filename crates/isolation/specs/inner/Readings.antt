@@ -4,7 +4,7 @@ use mathlib.Core.Bool.{true}
 use Prim.Native.Nat.{ℕ}
 use Rattle.graph.specs.Graph.{Graph, Direction, linked, portionLength}
 use Rattle.query.specs.Query.{Query}
-use Rattle.ordering.specs.Order.{edgesOf}
+use Rattle.plan_order.specs.Order.{edgesOf}
 use Rattle.plan_bounds.specs.Bounds.{longestPortion}
 use Rattle.isolation.specs.Others.{names}
 

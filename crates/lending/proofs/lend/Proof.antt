@@ -51,14 +51,14 @@ use denote.Triple.Walked.{needs, Stays, stay-dropped, gave-slice, walkOf, AllGo,
 use denote.Exit.{yes}
 use denote.Signature.{plain, shrSliceOf}
 use borrow.Table.Elements.{at, cut-app, join-app}
-use Rattle.execution.specs.Run.{runAnswer, runList, runRecords, runScratch}
-use Rattle.execution.specs.Complete.{ListsEveryMatch}
-use Rattle.execution.specs.declared.Record.{Record}
-use Rattle.execution.specs.declared.RunAnswer.{RunAnswer}
-use Rattle.execution.proofs.Record as R
-use Rattle.execution.proofs.Record.Laws as R′
-use Rattle.execution.proofs.RunAnswer as N
-use Rattle.execution.proofs.RunAnswer.Laws as N′
+use Rattle.run_spec.specs.Run.{runAnswer, runList, runRecords, runScratch}
+use Rattle.run_spec.specs.Complete.{ListsEveryMatch}
+use Rattle.run_spec.specs.declared.Record.{Record}
+use Rattle.run_spec.specs.declared.RunAnswer.{RunAnswer}
+use Rattle.run_spec.proofs.Record as R
+use Rattle.run_spec.proofs.Record.Laws as R′
+use Rattle.run_spec.proofs.RunAnswer as N
+use Rattle.run_spec.proofs.RunAnswer.Laws as N′
 use Rattle.lending.specs.Lending.{lentIn, Fills}
 use Rattle.lending.specs.declared.Lending.{Lending}
 use Rattle.lending.specs.declared.Filled.{Filled}

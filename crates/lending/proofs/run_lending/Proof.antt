@@ -8,8 +8,8 @@ use lib.ListN.{length, take, drop, length-map, drop-of-length-le}
 use lib.Seq.{take-all}
 use denote.Struct.Laws as LL
 use borrow.Author.Needs.{needs}
-use Rattle.execution.specs.declared.Record.{Record}
-use Rattle.execution.proofs.Record as R
+use Rattle.run_spec.specs.declared.Record.{Record}
+use Rattle.run_spec.proofs.Record as R
 use Rattle.lending.specs.Lending.{Fills}
 use Rattle.lending.specs.declared.Filled.{Filled}
 use Rattle.lending.proofs.Lending as D

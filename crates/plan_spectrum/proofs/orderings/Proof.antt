@@ -4,7 +4,7 @@ use Prim.Native.Nat.{ℕ, _≤_}
 use native.Mathlib.Omega.{arith}
 use lib.ListN.{length, take, length-append}
 use lib.Seq.{length-take-le}
-use Rattle.execution.specs.Run.{counted}
+use Rattle.run_spec.specs.Run.{counted}
 use Rattle.run.proofs.Answers.{cleared-scratch}
 use Rattle.graph.specs.Store.{graphIn}
 use Rattle.plan_spectrum.proofs.Answers.{Done, counted-done}

@@ -6,11 +6,11 @@ use borrow.Author.Needs.{needs}
 use Rattle.graph.specs.Store.{graphIn}
 use Rattle.query.specs.inner.Struct.{queryIn}
 use Rattle.plan.proofs.Sets.{edges-length}
-use Rattle.ordering.specs.Order.{scanEdge}
+use Rattle.plan_order.specs.Order.{scanEdge}
 use Rattle.planner.proofs.Answers.{drawn-short, drawn-whole}
 use Rattle.planner.proofs.Drawing.{drawable-sized, scan-below, drawn-size, drawn-left}
-use Rattle.ordering.proofs.Tallies.{scan-chosen}
-use Rattle.ordering.proofs.Degrees.{vertices-in}
+use Rattle.plan_order.proofs.Tallies.{scan-chosen}
+use Rattle.plan_order.proofs.Degrees.{vertices-in}
 use Rattle.planner.proofs.draw_accepted.Statement.{statement}
 use Rattle.planner.proofs.draw_accepted.Tie as tie
 

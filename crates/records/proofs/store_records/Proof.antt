@@ -49,12 +49,12 @@ use denote.Triple.Table.{entered, cited}
 use denote.Triple.Walked.{says, needs, Stays, stay-none, stay-slice, walkOf, AllGo, goes-none, goes-slice, Walks, ends-at, walked, walk-meets}
 use denote.Exit.{yes}
 use denote.Signature.{plain}
-use Rattle.execution.specs.declared.Record.{Record}
+use Rattle.run_spec.specs.declared.Record.{Record}
 use Rattle.records.specs.declared.Recorded.{Recorded}
-use Rattle.execution.proofs.Record as R
-use Rattle.execution.proofs.Record.Laws as R′
-use Rattle.execution.proofs.RunAnswer as N
-use Rattle.execution.proofs.RunAnswer.Laws as N′
+use Rattle.run_spec.proofs.Record as R
+use Rattle.run_spec.proofs.Record.Laws as R′
+use Rattle.run_spec.proofs.RunAnswer as N
+use Rattle.run_spec.proofs.RunAnswer.Laws as N′
 use Rattle.records.proofs.Recorded as D
 use Rattle.records.proofs.Recorded.Laws as D′
 use Rattle.records.proofs.Recorded.record as rec

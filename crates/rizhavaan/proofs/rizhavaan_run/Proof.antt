@@ -38,13 +38,13 @@ use denote.Triple.Table.{entered, cited}
 use denote.Triple.Walked.{Stays, stay-dropped, gave-slice, gave-ref, walkOf, AllGo, goes-dropped, goes-gave-slice, goes-gave-ref, Walks, ends-at, walked, walk-meets}
 use denote.Exit.{yes}
 use denote.Signature.{plain, shrSliceOf}
-use Rattle.execution.specs.Run.{runAnswer, runList, runRecords, runScratch}
-use Rattle.execution.specs.Complete.{ListsEveryMatch}
-use Rattle.execution.specs.declared.Record.{Record}
-use Rattle.execution.specs.declared.RunAnswer.{RunAnswer}
-use Rattle.execution.proofs.Record as R
-use Rattle.execution.proofs.RunAnswer as N
-use Rattle.execution.proofs.RunAnswer.Laws as N′
+use Rattle.run_spec.specs.Run.{runAnswer, runList, runRecords, runScratch}
+use Rattle.run_spec.specs.Complete.{ListsEveryMatch}
+use Rattle.run_spec.specs.declared.Record.{Record}
+use Rattle.run_spec.specs.declared.RunAnswer.{RunAnswer}
+use Rattle.run_spec.proofs.Record as R
+use Rattle.run_spec.proofs.RunAnswer as N
+use Rattle.run_spec.proofs.RunAnswer.Laws as N′
 use Rattle.run.proofs.run as core
 use Rattle.run.proofs.run.Symbol as core-def
 use Rattle.run.proofs.run.Symbol.{name as #run}

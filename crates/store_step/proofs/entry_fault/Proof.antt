@@ -1,6 +1,6 @@
 -- `store_step::entry_fault` meets its contract: each test is one of `entryFits`. Assumes nothing.
 use native.Mathlib.Omega.{arith}
-use Rattle.short_lists.proofs.Loops.{entry-falls, entry-wide, entry-outside, entry-passes}
+use Rattle.store_reverse.proofs.Loops.{entry-falls, entry-wide, entry-outside, entry-passes}
 use Rattle.store_step.proofs.entry_fault.Statement.{statement}
 use Rattle.store_step.proofs.entry_fault.Tie as tie
 

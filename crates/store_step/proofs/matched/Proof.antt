@@ -11,16 +11,16 @@ use Rattle.store_step.proofs.matched.Lts as lts
 use Rattle.store_step.proofs.wide.Reads as wide-reads
 
 abbrev Inv-loop : tie.InvT-loop
-Inv-loop list from v base n back cursors₀ limit mirror last₀ i₀ cursors last i = Matching n v base list back from cursors₀ cursors last i
+Inv-loop list from v base n back cursors₀ limit reverse last₀ i₀ cursors last i = Matching n v base list back from cursors₀ cursors last i
 
 abbrev μ-loop : tie.MeasureT-loop
-μ-loop list from v base n back cursors₀ limit mirror last₀ i₀ cursors last i = length list - i
+μ-loop list from v base n back cursors₀ limit reverse last₀ i₀ cursors last i = length list - i
 
 add-limit : tie.Need-add-limit Inv-loop μ-loop
 add-limit c = omega arith
 
-add-mirror : tie.Need-add-mirror Inv-loop μ-loop
-add-mirror c = omega arith
+add-reverse : tie.Need-add-reverse Inv-loop μ-loop
+add-reverse c = omega arith
 
 sub-last : tie.Need-sub-last Inv-loop μ-loop
 sub-last c = omega arith
@@ -122,7 +122,7 @@ matched-spec =
     Inv-loop
     μ-loop
     add-limit
-    add-mirror
+    add-reverse
     sub-last
     loop-holds
     mul-entry

@@ -3,8 +3,8 @@ use native.Mathlib.Omega.{arith}
 use Prim.Native.Nat.{_%_, _<_}
 use denote.Ref.{now}
 use lib.ListN.{getD}
-use Rattle.short_lists.proofs.Loops.{entry-in}
-use Rattle.store_step.proofs.Agreeing.{entry-refutes, mirror-refutes}
+use Rattle.store_reverse.proofs.Loops.{entry-in}
+use Rattle.store_step.proofs.Agreeing.{entry-refutes, reverse-refutes}
 use borrow.Author.Needs.{needs}
 use Rattle.store_step.proofs.verdict.Statement.{statement}
 use Rattle.store_step.proofs.verdict.Tie as tie
@@ -37,14 +37,14 @@ entry c = entry-in _ _ _ (c .before .entry-fault .ensures) (c .if1 .left)
 cast-x : tie.Need-cast-x
 cast-x c = search needs
 
-sub-mirror : tie.Need-sub-mirror
-sub-mirror c = search needs
+sub-reverse : tie.Need-sub-reverse
+sub-reverse c = search needs
 
-cast-mirror : tie.Need-cast-mirror
-cast-mirror c = search needs
+cast-reverse : tie.Need-cast-reverse
+cast-reverse c = search needs
 
-add-mirror : tie.Need-add-mirror
-add-mirror c = omega (arith, entry c)
+add-reverse : tie.Need-add-reverse
+add-reverse c = omega (arith, entry c)
 
 neighbours-requires : tie.Need-neighbours-requires
 neighbours-requires c κs = c .before .before .before .before .before .before .pre .0 _ (entry c .1)
@@ -55,7 +55,7 @@ lacks-requires c κs = search needs
 returns-2 : tie.Need-returns-2
 returns-2 c =
     let a = c .before .before .before .before .before .before .before .before in
-    mirror-refutes (now (a .args .store)) (a .args .n) (a .args .other) (a .args .v) (now (a .args .list)) (a .args .i) (omega arith)
+    reverse-refutes (now (a .args .store)) (a .args .n) (a .args .other) (a .args .v) (now (a .args .list)) (a .args .i) (omega arith)
     (c .before .neighbours .ensures) (c .lacks .ensures)
 
 pub verdict-spec : {M : Type 1} → statement M
@@ -68,9 +68,9 @@ verdict-spec =
     entry-fault-requires
     returns
     cast-x
-    sub-mirror
-    cast-mirror
-    add-mirror
+    sub-reverse
+    cast-reverse
+    add-reverse
     neighbours-requires
     lacks-requires
     returns-2)

@@ -9,13 +9,13 @@ use Prim.Native.Nat.{ℕ, zero, suc, _+_, _-_, _*_, _%_, _≤_, _<_}
 use lib.ListN.{length, getD, take, drop}
 use Rattle.graph.specs.Graph.{maxGraphVertices, maxGraphEdges, entrySpan, entryEnd}
 use Rattle.adjacency.specs.inner.Side.{listOn, Within}
-use Rattle.short_lists.specs.inner.Check.{unless, mirror, offsetsFit, offsetsOn, sideFits, sideMirrored}
+use Rattle.store_reverse.specs.inner.Check.{unless, reverse, offsetsFit, offsetsOn, sideFits, sideReversed}
 
--- ---- answers: 0 where both sides fit and mirror each other, 19 where they do not, 1 where that is not known
+-- ---- answers: 0 where both sides fit and reverse each other, 19 where they do not, 1 where that is not known
 
--- Both sides fit, and every entry of the first is mirrored on the second.
+-- Both sides fit, and every entry of the first is reversed on the second.
 unfoldable pub sidesAgree : List ℕ → ℕ → ℕ → ℕ → Bool
-sidesAgree store n side other = sideFits store n side && (sideMirrored store n side other && sideFits store n other)
+sidesAgree store n side other = sideFits store n side && (sideReversed store n side other && sideFits store n other)
 
 -- An answer is 1, or 19 of a test that fails.
 abbrev pub Refutes : ℕ → Bool → Type 0
@@ -67,12 +67,12 @@ pub record Word (n : ℕ) (back : List ℕ) (start next c : ℕ) : Type 0 where
   pub reached : getD back c 0 < next
   pub rises : start < c → getD back (c - 1) 0 < getD back c 0
 
--- Entry k of vertex v stands mirrored among the words that the cursor of its neighbour has passed.
+-- Entry k of vertex v stands reversed among the words that the cursor of its neighbour has passed.
 pub record Arrived (starts : ℕ → ℕ) (back cursors : List ℕ) (v k : ℕ) : Type 0 where
   pub place : ℕ
   pub begins : starts (k % entrySpan) ≤ place
   pub passed : place < getD cursors (k % entrySpan) 0
-  pub word : getD back place 0 ≡ mirror v k
+  pub word : getD back place 0 ≡ reverse v k
 
 -- An entry that is done: in order, in its range, and arrived.
 pub record Done (n : ℕ) (starts : ℕ → ℕ) (back cursors : List ℕ) (v : ℕ) (list : List ℕ) (j : ℕ) : Type 0 where

@@ -4,7 +4,7 @@ use mathlib.Core.Path.{_≡_, _∙_}
 use native.Mathlib.Omega.{arith}
 use native.Mathlib.Nat.{add-sub-cancel-left}
 use Rattle.adjacency.proofs.Accepted.{store-counts}
-use Rattle.ordering.proofs.Tallies.{forward-room}
+use Rattle.plan_order.proofs.Tallies.{forward-room}
 use Rattle.plan_bounds.proofs.Seeing.{edges-any, edges-label}
 use Rattle.plan_bounds.proofs.longest.edges_of.Statement.{statement}
 use Rattle.plan_bounds.proofs.longest.edges_of.Tie as tie

@@ -4,7 +4,7 @@ use borrow.Author.Needs.{needs}
 use Rattle.lists.specs.Lists.{bit}
 use Rattle.query.specs.inner.Mask.{inMask}
 use Rattle.query.specs.inner.Struct.{asEdge}
-use Rattle.ordering.proofs.Degrees.{joins-out, joins-in, joins-not}
+use Rattle.plan_order.proofs.Degrees.{joins-out, joins-in, joins-not}
 use Rattle.plan_bounds.proofs.longest.joins.Statement.{statement}
 use Rattle.plan_bounds.proofs.longest.joins.Tie as tie
 

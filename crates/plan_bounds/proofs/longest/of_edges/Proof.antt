@@ -12,7 +12,7 @@ use Rattle.query.specs.Query.{between}
 use Rattle.query.specs.inner.Mask.{inMask}
 use Rattle.query.specs.inner.Struct.{asEdge, edgeOf}
 use Rattle.query.proofs.Structs.{edge-read}
-use Rattle.ordering.proofs.Degrees.{edge-ends, label-byte}
+use Rattle.plan_order.proofs.Degrees.{edge-ends, label-byte}
 use Rattle.plan_bounds.specs.Bounds.{longestFor}
 use Rattle.plan_bounds.specs.inner.Held.{Seen}
 use Rattle.plan_bounds.proofs.Seeing.{lengthsOf, lengths-none, lengths-skip, lengths-more, seen-all}

@@ -3,8 +3,8 @@ use borrow.Author.Needs.{needs}
 use mathlib.Core.Path.{refl, _∙_, ap}
 use Rattle.graph.specs.Store.{graphIn}
 use Rattle.query.specs.inner.Struct.{queryIn}
-use Rattle.ordering.specs.Order.{edgesOf}
-use Rattle.ordering.proofs.Degrees.{edge-ends, edge-label, label-byte, ends-mask}
+use Rattle.plan_order.specs.Order.{edgesOf}
+use Rattle.plan_order.proofs.Degrees.{edge-ends, edge-label, label-byte, ends-mask}
 use Rattle.plan_bounds.proofs.Seeing.{edges-few}
 use Rattle.plan_bounds.proofs.Turning.{scanned}
 use Rattle.plan_bounds.proofs.pile.after_scan.Statement.{statement}

@@ -1,7 +1,7 @@
 -- `plan_bounds::pile::answer` meets its contract. Assumes nothing.
 use borrow.Author.Needs.{needs}
 use mathlib.Core.Path.{sym}
-use Rattle.ordering.proofs.Degrees.{vertices-in}
+use Rattle.plan_order.proofs.Degrees.{vertices-in}
 use Rattle.plan_bounds.proofs.Turning.{numbers-none, numbers-top}
 use Rattle.plan_bounds.proofs.pile.answer.Statement.{statement}
 use Rattle.plan_bounds.proofs.pile.answer.Tie as tie

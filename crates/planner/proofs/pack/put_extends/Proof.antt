@@ -9,7 +9,7 @@ use borrow.Author.Needs.{needs}
 use Rattle.packed.specs.inner.Put.{written}
 use Rattle.query.specs.inner.Mask.{inMask}
 use Rattle.query.specs.inner.Struct.{queryIn}
-use Rattle.ordering.specs.Order.{nextVertex, extendsFrom}
+use Rattle.plan_order.specs.Order.{nextVertex, extendsFrom}
 use Rattle.planner.proofs.Ordering.{length-extends}
 use Rattle.planner.proofs.Turns.{Turned, turned-none, turned-next, turned-more, bitsTo, length-bitsTo, bitsTo-none, bitsTo-more, bitsTo-all}
 use Rattle.planner.proofs.pack.put_extends.Statement.{statement}

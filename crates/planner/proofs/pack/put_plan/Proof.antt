@@ -14,11 +14,11 @@ use Rattle.query.specs.Query.{VertexSet, edgeAt}
 use Rattle.query.specs.inner.Mask.{inMask}
 use Rattle.query.specs.inner.Struct.{queryIn}
 use Rattle.plan.specs.Plan.{ends}
-use Rattle.ordering.specs.Order.{extendsFrom}
+use Rattle.plan_order.specs.Order.{extendsFrom}
 use Rattle.planner.specs.Draw.{scanBits, extendBits, planBits}
 use Rattle.planner.proofs.Ordering.{length-extends}
 use Rattle.planner.proofs.Packing.{length-scanBits, plan-bits}
-use Rattle.ordering.proofs.Degrees.{edge-ends, ends-mask}
+use Rattle.plan_order.proofs.Degrees.{edge-ends, ends-mask}
 use Rattle.planner.proofs.Turns.{plan-written}
 use Rattle.planner.proofs.pack.put_plan.Statement.{statement}
 use Rattle.planner.proofs.pack.put_plan.Tie as tie

@@ -1,3 +1,0 @@
--- Laws of the stretch of vertices that a row's pairs leave.
-pub mod Ordering
-pub mod Spans

@@ -1,7 +1,0 @@
--- Laws of the legs of a row, and of their portions.
-pub mod Leading
-pub mod Listing
-pub mod Lookups
-pub mod Meeting
-pub mod Putting
-pub mod Walking

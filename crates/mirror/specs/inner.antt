@@ -1,2 +1,0 @@
--- Predicates of inner functions. What the passes find and leave.
-pub mod Mirror

@@ -1,8 +1,0 @@
--- Laws of the store check where lists are short.
-pub mod Begun
-pub mod Blocks
-pub mod Few
-pub mod Fits
-pub mod Loops
-pub mod Mirrors
-pub mod Offsets

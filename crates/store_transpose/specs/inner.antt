@@ -1,0 +1,2 @@
+-- Predicates of inner functions. What the passes find and leave.
+pub mod Transpose
