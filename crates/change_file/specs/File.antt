@@ -1,5 +1,5 @@
--- The change file: 'a count (20 bits), then for each a bit (1 add, 0 take away) and an edge as in the graph file', and its fault.
--- Assumes nothing.
+-- The change file: 'a count (20 bits), then for each a bit (1 add, 0 take away) and an edge as in the graph
+-- file', and its fault. Assumes nothing.
 use mathlib.Core.Bool.{Bool, true, not, _&&_}
 use mathlib.Core.List.{List, map}
 use Prim.Native.Nat.{ℕ, zero, suc, _+_, _*_}
@@ -55,4 +55,5 @@ changeFits n s i = not (badEdge n (changedEdge s i)) && changeAscends s i
 unfoldable pub changeFault : ℕ → List ℕ → ℕ
 changeFault n s =
     refuse 27
-    (not (eqb (length s) (changeSize s) && not (fillSet s (changeStart (changeCount s))) && all (changeFits n s) (range (changeCount s))))
+    (not (eqb (length s) (changeSize s) && not (fillSet s (changeStart (changeCount s)))
+    && all (changeFits n s) (range (changeCount s))))

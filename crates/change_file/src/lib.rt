@@ -1,4 +1,5 @@
-// The change file: a count (20 bits), then for each change a bit (1 add, 0 take away), a source (16), a label (8) and a target (16).
+// The change file: a count (20 bits), then for each change a bit (1 add, 0 take away), a source (16), a label
+// (8) and a target (16).
 ghost use mathlib.Core.Path.{_≡_};
 ghost use mathlib.Core.Bool.{not};
 ghost use Prim.Native.Nat.{suc, _+_, _*_, _≤_, _<_};
@@ -66,8 +67,8 @@ fn length_fault(file: &[u8]) -> u32
     0
 }
 
-// 27 where an edge has a vertex outside 0 to n - 1 or label 0, or does not ascend; else 0. `least` is one more than the key of the
-// change before.
+// 27 where an edge has a vertex outside 0 to n - 1 or label 0, or does not ascend; else 0. `least` is one
+// more than the key of the change before.
 fn edges_fault(file: &[u8], n: usize, k: usize) -> u32
     requires { ⌜ Sized (now file) × (k ≡ changeCount (now file)) ⌝ }
     ensures { λ r. ⌜ r ≡ refuse 27 (not (all (changeFits n (now (file .entry))) (range k))) ⌝ }

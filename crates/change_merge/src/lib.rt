@@ -1,5 +1,6 @@
-// Merging the lists of a side of the old store with the changes: what is in one of the two alone stays. The changes come by their keys, ascending: in a
-// slice, or where that is empty as the file has them, which is the order of the forward side.
+// Merging the lists of a side of the old store with the changes: what is in one of the two alone stays. The
+// changes come by their keys, ascending: in a slice, or where that is empty as the file has them, which is
+// the order of the forward side.
 pub mod backward;
 
 ghost use mathlib.Core.Path.{_≡_};
@@ -9,7 +10,9 @@ ghost use lib.ListN.{length, getD, drop};
 ghost use Rattle.graph.specs.Graph.{entryEnd};
 ghost use Rattle.change_file.specs.File.{changeCount};
 ghost use Rattle.change_merge.specs.inner.Toggle.{toggled};
-ghost use Rattle.change_merge.specs.inner.Merge.{entriesOf, sideKeys, Keyed, nextEntry, Mergeable, sideWords, keysOn, SideOf, Fitting, Copyable, Copied, Moved};
+ghost use Rattle.change_merge.specs.inner.Merge.{entriesOf, sideKeys, Keyed, nextEntry, Mergeable};
+ghost use Rattle.change_merge.specs.inner.Merge.{sideWords, keysOn, SideOf, Fitting, Copyable, Copied};
+ghost use Rattle.change_merge.specs.inner.Merge.{Moved};
 use adjacency::neighbours;
 use graph::Graph;
 
@@ -64,7 +67,8 @@ fn word(list: &[u32], i: usize) -> u32
     }
 }
 
-// A vertex's list merged with its changes, of which `from` is the first. The words after its last change are copied at once.
+// A vertex's list merged with its changes, of which `from` is the first. The words after its last change are
+// copied at once.
 fn merge_list(
     list: &[u32],
     file: &[u8],
@@ -76,10 +80,14 @@ fn merge_list(
 ) -> Merged
     requires { ⌜ Keyed (now file) (now keys) × (k ≡ changeCount (now file)) ⌝ }
     requires { ⌜ Mergeable (now list) (sideKeys (now file) (now keys)) v from (length (now out)) ⌝ }
-    ensures words { λ _. ⌜ now (out .exit) ≡ toggled (now (list .entry)) (entriesOf v (drop from (sideKeys (now (file .entry)) (now (keys .entry)))))
-        ++ drop (length (toggled (now (list .entry)) (entriesOf v (drop from (sideKeys (now (file .entry)) (now (keys .entry))))))) (now (out .entry)) ⌝ }
-    ensures answer { λ r. ⌜ (r .len ≡ length (toggled (now (list .entry)) (entriesOf v (drop from (sideKeys (now (file .entry)) (now (keys .entry)))))))
-        × (r .next ≡ from + length (entriesOf v (drop from (sideKeys (now (file .entry)) (now (keys .entry)))))) ⌝ }
+    ensures words { λ _. ⌜ now (out .exit) ≡ toggled (now (list .entry))
+        (entriesOf v (drop from (sideKeys (now (file .entry)) (now (keys .entry)))))
+        ++ drop (length (toggled (now (list .entry)) (entriesOf v
+        (drop from (sideKeys (now (file .entry)) (now (keys .entry))))))) (now (out .entry)) ⌝ }
+    ensures answer { λ r. ⌜ (r .len ≡ length (toggled (now (list .entry))
+        (entriesOf v (drop from (sideKeys (now (file .entry)) (now (keys .entry)))))))
+        × (r .next
+        ≡ from + length (entriesOf v (drop from (sideKeys (now (file .entry)) (now (keys .entry)))))) ⌝ }
 {
     let mut at = from;
     let mut i = 0;
@@ -112,7 +120,9 @@ fn merge_list(
 
 // The first words of one slice, less one number and more another, copied to the front of a second.
 fn move_offsets(from: &[u32], count: usize, less: u32, more: u32, to: &mut [u32])
-    requires { ⌜ (count ≤ length (now from)) × (count ≤ length (now to)) × ((i : ℕ) → i < count → (less ≤ getD (now from) i 0) × (getD (now from) i 0 - less + more < 4294967296)) ⌝ }
+    requires { ⌜ (count ≤ length (now from)) × (count ≤ length (now to))
+        × ((i : ℕ) → i < count → (less ≤ getD (now from) i 0)
+        × (getD (now from) i 0 - less + more < 4294967296)) ⌝ }
     ensures { λ _. ⌜ Moved (now (from .entry)) count less more (now (to .entry)) (now (to .exit)) ⌝ }
 {
     let mut i = 0;
@@ -122,7 +132,8 @@ fn move_offsets(from: &[u32], count: usize, less: u32, more: u32, to: &mut [u32]
     }
 }
 
-// The lists of the vertices from v to before u copied at once after `len` entries, and their offsets moved. How many entries they are.
+// The lists of the vertices from v to before u copied at once after `len` entries, and their offsets moved.
+// How many entries they are.
 fn copy_lists(
     old: &[u32],
     n: usize,
@@ -132,8 +143,10 @@ fn copy_lists(
     len: usize,
     side: &mut [u32],
 ) -> usize
-    requires { ⌜ SideOf (now old) n at (keysOn (now old) n at) × Copyable (keysOn (now old) n at) n v u len (length (now side)) ⌝ }
-    ensures { λ r. ⌜ Copied (keysOn (now (old .entry)) n at) n v u len (now (side .entry)) (now (side .exit)) r ⌝ }
+    requires { ⌜ SideOf (now old) n at (keysOn (now old) n at)
+        × Copyable (keysOn (now old) n at) n v u len (length (now side)) ⌝ }
+    ensures { λ r. ⌜ Copied (keysOn (now (old .entry)) n at) n v u len (now (side .entry)) (now (side .exit))
+        r ⌝ }
 {
     let first = old[at + v];
     let count = (old[at + u] - first) as usize;
@@ -152,8 +165,8 @@ fn copy_lists(
     count
 }
 
-// A side of the old store, which begins at a word, merged with the changes: the offsets and the entries of the new side. The list of each changed
-// vertex is merged, and those between are copied.
+// A side of the old store, which begins at a word, merged with the changes: the offsets and the entries of
+// the new side. The list of each changed vertex is merged, and those between are copied.
 pub fn merge_side(
     old: &[u32],
     n: usize,
@@ -166,8 +179,10 @@ pub fn merge_side(
     requires { ⌜ SideOf (now old) n at (keysOn (now old) n at) ⌝ }
     requires { ⌜ Keyed (now file) (now keys) × (k ≡ changeCount (now file)) ⌝ }
     requires { ⌜ Fitting (keysOn (now old) n at) (sideKeys (now file) (now keys)) n (length (now side)) ⌝ }
-    ensures { λ _. ⌜ now (side .exit) ≡ sideWords n (toggled (keysOn (now (old .entry)) n at) (sideKeys (now (file .entry)) (now (keys .entry))))
-        ++ drop (suc n + length (toggled (keysOn (now (old .entry)) n at) (sideKeys (now (file .entry)) (now (keys .entry))))) (now (side .entry)) ⌝ }
+    ensures { λ _. ⌜ now (side .exit) ≡ sideWords n (toggled (keysOn (now (old .entry)) n at)
+        (sideKeys (now (file .entry)) (now (keys .entry))))
+        ++ drop (suc n + length (toggled (keysOn (now (old .entry)) n at)
+        (sideKeys (now (file .entry)) (now (keys .entry))))) (now (side .entry)) ⌝ }
 {
     side[0] = 0;
     let mut next = 0;

@@ -1,4 +1,5 @@
--- The edited graph, what changes are refused, and what is answered and left in the new store. Assumes nothing.
+-- The edited graph, what changes are refused, and what is answered and left in the new store. Assumes
+-- nothing.
 use mathlib.Core.Bool.{Bool, cond, not, _&&_}
 use mathlib.Core.List.{List, [], _∷_, _++_, map}
 use Prim.Native.Nat.{ℕ, _/_, _%_}
@@ -26,9 +27,11 @@ keysOf g = map (key forward) (g .edges)
 abbrev pub taken : List Change → ℕ → Bool
 taken cs k = any (λ (c : Change). not (c .adds) && eqb (changeKey c) k) cs
 
--- The edges of the edited graph by key: those of the old one without the ones taken away, and the ones added, in the file's order.
+-- The edges of the edited graph by key: those of the old one without the ones taken away, and the ones added,
+-- in the file's order.
 unfoldable pub editedKeys : List ℕ → List Change → List ℕ
-editedKeys ks cs = sort (keep (λ (k : ℕ). not (taken cs k)) ks ++ map changeKey (keep (λ (c : Change). c .adds) cs))
+editedKeys ks cs = sort (keep (λ (k : ℕ). not (taken cs k)) ks
+    ++ map changeKey (keep (λ (c : Change). c .adds) cs))
 
 -- The edited graph: vertices, labels and days stay.
 unfoldable pub applyChanges : Graph → List Change → Graph
@@ -74,7 +77,8 @@ applyAnswer old s room =
       edges = answered (applyFault old s room) (length (editedGraph old s .edges));
     }
 
--- The new store: the words of the edited graph followed by its old words; 'refused, the new store is untouched'.
+-- The new store: the words of the edited graph followed by its old words; 'refused, the new store is
+-- untouched'.
 unfoldable pub changedStore : List ℕ → List ℕ → List ℕ → List ℕ
 changedStore old s store =
     cond (eqb (applyFault old s (length store)) 0)

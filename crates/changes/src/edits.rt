@@ -14,9 +14,10 @@ use adjacency::neighbours;
 use search::lower_bound;
 use search::walk_up;
 
-// The first index of an ascending list whose word is not below x: word by word from the guess on, where the word before it is below x, else by
-// a search. Changes of one vertex ascend, so that the place of one is a guess for the next, and all of them together walk a list once. Any guess
-// will do. (`search::seek` would do for both, but a second caller takes it out of the walk along two lists.)
+// The first index of an ascending list whose word is not below x: word by word from the guess on, where the
+// word before it is below x, else by a search. Changes of one vertex ascend, so that the place of one is a
+// guess for the next, and all of them together walk a list once. Any guess will do. (`search::seek` would do
+// for both, but a second caller takes it out of the walk along two lists.)
 fn place(list: &[u32], x: u32, guess: usize) -> usize
     requires { ⌜ ascending (now list) ≡ true ⌝ }
     ensures { λ r. ⌜ r ≡ firstFrom (now (list .entry)) 0 x ⌝ }
@@ -47,7 +48,8 @@ fn stands(list: &[u32], x: u32, place: usize) -> u32
     0
 }
 
-// 28 where a change adds a present edge or takes an absent one, else 0. The forward side of the old store begins at a word.
+// 28 where a change adds a present edge or takes an absent one, else 0. The forward side of the old store
+// begins at a word.
 pub fn edits_fault(old: &[u32], n: usize, at: usize, file: &[u8], k: usize) -> u32
     requires { ⌜ Editable (now old) n at (now file) k ⌝ }
     ensures { λ r. ⌜ r ≡ editFault (graphIn (now (old .entry))) (changesOf (now (file .entry))) ⌝ }

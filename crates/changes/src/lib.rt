@@ -51,11 +51,13 @@ fn apply_fault(old: &[u32], file: &[u8], room: usize) -> u32
     0
 }
 
-// Answered as by Load: the refusal, with the new store untouched; or the counts of the edited graph, with its words in the new store. The old store is
-// only read.
+// Answered as by Load: the refusal, with the new store untouched; or the counts of the edited graph, with its
+// words in the new store. The old store is only read.
 pub fn apply_changes(old: &[u32], file: &[u8], store: &mut [u32]) -> Loaded
-    ensures answer { λ r. ⌜ r ≡ applyAnswer (now (old .entry)) (now (file .entry)) (length (now (store .entry))) ⌝ }
-    ensures words { λ _. ⌜ now (store .exit) ≡ changedStore (now (old .entry)) (now (file .entry)) (now (store .entry)) ⌝ }
+    ensures answer { λ r. ⌜ r ≡ applyAnswer (now (old .entry)) (now (file .entry))
+        (length (now (store .entry))) ⌝ }
+    ensures words { λ _. ⌜ now (store .exit) ≡ changedStore (now (old .entry)) (now (file .entry))
+        (now (store .entry)) ⌝ }
 {
     let refusal = apply_fault(old, file, store.len());
     if refusal != 0 {

@@ -1,5 +1,6 @@
--- The graph file: 'N vertices (16 bits), M edges (20 bits), N vertex labels (16 bits each)' with an inspection day of 16 bits after
--- each, 'then M edges of source (16), label (8), target (16)', and the faults for which Load refuses one. Assumes nothing.
+-- The graph file: 'N vertices (16 bits), M edges (20 bits), N vertex labels (16 bits each)' with an
+-- inspection day of 16 bits after each, 'then M edges of source (16), label (8), target (16)', and the faults
+-- for which Load refuses one. Assumes nothing.
 use mathlib.Core.Bool.{Bool, true, not, _&&_, _||_}
 use mathlib.Core.List.{List, [], _∷_, map}
 use Prim.Native.Nat.{ℕ, zero, suc, _+_, _*_}
@@ -66,7 +67,8 @@ ascends s (suc i) = ltb (key forward (edgeIn s i)) (key forward (edgeIn s (suc i
 abbrev pub edgeFault : List ℕ → ℕ → ℕ
 edgeFault s i = first (refuse 3 (badEdge (vertexCount s) (edgeIn s i)) ∷ refuse 4 (not (ascends s i)) ∷ [])
 
--- '1 the file is shorter than 5 bytes or than its own size; 2 longer, or a fill bit set; then by edge in file order.'
+-- '1 the file is shorter than 5 bytes or than its own size; 2 longer, or a fill bit set; then by edge in file
+-- order.'
 unfoldable pub graphFault : List ℕ → ℕ
 graphFault s =
     first

@@ -19,7 +19,8 @@ pub record Graph : Type 0 where
   pub days : List ℕ
   pub edges : List Edge
 
--- The limits of a graph: 'N vertices (16 bits), M edges (20 bits)', labels and days of '16 bits each'; 'edge labels are 1 to 255'.
+-- The limits of a graph: 'N vertices (16 bits), M edges (20 bits)', labels and days of '16 bits each'; 'edge
+-- labels are 1 to 255'.
 abbrev pub maxGraphVertices : ℕ
 maxGraphVertices = 65535
 
@@ -39,7 +40,8 @@ maxDay = 65535
 abbrev pub maxEdgeLabel : ℕ
 maxEdgeLabel = 255
 
--- An entry is 'label × 65,536 + neighbour', so every entry is below the label after the last one times as much.
+-- An entry is 'label × 65,536 + neighbour', so every entry is below the label after the last one times as
+-- much.
 abbrev pub entrySpan : ℕ
 entrySpan = 65536
 
@@ -62,7 +64,8 @@ far backward e = e .source
 abbrev pub entry : Direction → Edge → ℕ
 entry d e = e .label * entrySpan + far d e
 
--- (near end, label, far end) as one number: edges ascend 'by (source, label, target)' where their forward keys do.
+-- (near end, label, far end) as one number: edges ascend 'by (source, label, target)' where their forward
+-- keys do.
 abbrev pub key : Direction → Edge → ℕ
 key d e = near d e * entryEnd + entry d e
 
@@ -70,7 +73,8 @@ key d e = near d e * entryEnd + entry d e
 unfoldable pub covers : ℕ → ℕ → Bool
 covers l k = eqb l 0 || eqb k l
 
--- 'The file has an edge of its label', or of any where that is 0, 'from the number of its first end to that of its second'.
+-- 'The file has an edge of its label', or of any where that is 0, 'from the number of its first end to that
+-- of its second'.
 unfoldable pub linked : Graph → ℕ → ℕ → ℕ → Bool
 linked g l x y = any (λ (e : Edge). eqb (e .source) x && covers l (e .label) && eqb (e .target) y) (g .edges)
 

@@ -1,5 +1,6 @@
--- The store: '4N + 2M + 4 words: N, M, the labels, the days, N+1 forward offsets, M forward entries, N+1 backward offsets, M backward
--- entries', what Load leaves in it, and which stores no accepted graph file loads to. Assumes nothing.
+-- The store: '4N + 2M + 4 words: N, M, the labels, the days, N+1 forward offsets, M forward entries, N+1
+-- backward offsets, M backward entries', what Load leaves in it, and which stores no accepted graph file
+-- loads to. Assumes nothing.
 use mathlib.Core.Path.{_≡_}
 use mathlib.Core.Logic.{_↔_}
 use mathlib.Core.Bool.{Bool, true, cond, not, _&&_}
@@ -9,10 +10,13 @@ use lib.Dec.{eqb, ltb}
 use lib.ListN.{length, getD, take, drop}
 use Rattle.lists.specs.Lists.{range, all, countIf, same, ascending, sort}
 use Rattle.lists.specs.Refusal.{refuse, first}
-use Rattle.graph.specs.Graph.{Edge, Graph, maxGraphVertices, maxGraphEdges, maxVertexLabel, maxDay, maxEdgeLabel, entrySpan, entryEnd, Direction, forward, backward, near, key}
+use Rattle.graph.specs.Graph.{Edge, Graph, maxGraphVertices, maxGraphEdges, maxVertexLabel, maxDay}
+use Rattle.graph.specs.Graph.{maxEdgeLabel, entrySpan, entryEnd, Direction, forward, backward, near}
+use Rattle.graph.specs.Graph.{key}
 use Rattle.graph.specs.File.{graphOf, graphFault, badEdge}
 
--- 'Offsets count entries from 0': how many edges have their near end below a vertex, for each vertex and one past the last.
+-- 'Offsets count entries from 0': how many edges have their near end below a vertex, for each vertex and one
+-- past the last.
 unfoldable pub offsets : Direction → Graph → List ℕ
 offsets d g = map (λ (v : ℕ). countIf (λ (e : Edge). ltb (near d e) v) (g .edges)) (range (suc (g .vertices)))
 
@@ -23,7 +27,8 @@ entries d g = map (λ (k : ℕ). k % entryEnd) (sort (map (key d) (g .edges)))
 -- The words that a graph is loaded to.
 unfoldable pub storeOf : Graph → List ℕ
 storeOf g =
-    g .vertices ∷ length (g .edges) ∷ g .labels ++ g .days ++ offsets forward g ++ entries forward g ++ offsets backward g
+    g .vertices ∷ length (g .edges) ∷ g .labels ++ g .days ++ offsets forward g ++ entries forward g
+    ++ offsets backward g
     ++ entries backward g
 
 -- '4N + 2M + 4 words.'
@@ -33,7 +38,8 @@ usedWords n m = 4 * n + 2 * m + 4
 abbrev pub storeSize : Graph → ℕ
 storeSize g = usedWords (g .vertices) (length (g .edges))
 
--- The graph is 'the one whose accepted file loads to the lent store', words past the used ones being anything.
+-- The graph is 'the one whose accepted file loads to the lent store', words past the used ones being
+-- anything.
 pub record LoadsTo (file store : List ℕ) : Type 0 where
   pub accepted : graphFault file ≡ 0
   pub words : take (storeSize (graphOf file)) store ≡ storeOf (graphOf file)
@@ -70,7 +76,8 @@ graphIn store =
       edges = flatMap (λ (v : ℕ). map (entryEdge v) (listIn store v)) (range (getD store 0 0));
     }
 
--- A graph that some accepted file holds: counts, labels, days and edges in their ranges, edges ascending strictly.
+-- A graph that some accepted file holds: counts, labels, days and edges in their ranges, edges ascending
+-- strictly.
 unfoldable pub wellFormed : Graph → Bool
 wellFormed g =
     ltb (g .vertices) (suc maxGraphVertices) && ltb (length (g .edges)) (suc maxGraphEdges)
@@ -85,8 +92,9 @@ storeFault store =
     let g = graphIn store in
     refuse 19 (not (wellFormed g && same (take (storeSize g) store) (storeOf g)))
 
--- '19 no accepted graph file loads to this store, words past the used ones ignored': it is given exactly where there is none, and
--- where it is not given there is one, of bytes.
+-- '19 no accepted graph file loads to this store, words past the used ones ignored': it is given exactly
+-- where there is none, and where it is not given there is one, of bytes.
 pub record Refuses19 (store : List ℕ) : Type 0 where
   pub none : (storeFault store ≡ 19) ↔ ((file : List ℕ) → LoadsTo file store → ⊥)
-  pub one : (storeFault store ≡ 0) ↔ ((file : List ℕ) × LoadsTo file store × (all (λ (b : ℕ). ltb b 256) file ≡ true))
+  pub one : (storeFault store ≡ 0) ↔ ((file : List ℕ) × LoadsTo file store
+      × (all (λ (b : ℕ). ltb b 256) file ≡ true))

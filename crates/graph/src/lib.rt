@@ -6,8 +6,9 @@ ghost use Rattle.graph.specs.Graph.{forward, backward};
 ghost use Rattle.graph.specs.Store.{usedWords};
 ghost use Rattle.graph.specs.inner.Side.{sideAt};
 
-// The counts of a graph, and where its words lie in a store: N, M, a label and then a day a vertex, and two sides. A side is N + 1 offsets followed by M entries; the forward side
-// has the targets of each source, the backward side the sources of each target.
+// The counts of a graph, and where its words lie in a store: N, M, a label and then a day a vertex, and two
+// sides. A side is N + 1 offsets followed by M entries; the forward side has the targets of each source, the
+// backward side the sources of each target.
 pub struct Graph {
     pub vertices: usize,
     pub edges: usize,
@@ -38,7 +39,8 @@ impl Graph {
     // The counts that a store names in its first two words.
     pub fn of_store(store: &[u32]) -> Self
         requires { ⌜ 2 ≤ length (now store) ⌝ }
-        ensures { λ r. ⌜ (r .vertices ≡ getD (now (store .entry)) 0 0) × (r .edges ≡ getD (now (store .entry)) 1 0) ⌝ }
+        ensures { λ r. ⌜ (r .vertices ≡ getD (now (store .entry)) 0 0)
+            × (r .edges ≡ getD (now (store .entry)) 1 0) ⌝ }
     {
         Graph {
             vertices: store[0] as usize,

@@ -1,12 +1,14 @@
-// The graph file: N (16 bits), M (20), N vertices of label (16) and day (16), then M edges of source (16), label (8), target (16); and its
-// faults.
+// The graph file: N (16 bits), M (20), N vertices of label (16) and day (16), then M edges of source (16),
+// label (8), target (16); and its faults.
 ghost use mathlib.Core.Path.{_≡_};
 ghost use Prim.Native.Nat.{suc, _+_, _*_, _≤_, _<_};
 ghost use lib.ListN.{length};
-ghost use Rattle.graph.specs.Graph.{maxGraphVertices, maxGraphEdges, maxEdgeLabel, entryEnd, forward, entry, key};
+ghost use Rattle.graph.specs.Graph.{maxGraphVertices, maxGraphEdges, maxEdgeLabel, entryEnd, forward, entry};
+ghost use Rattle.graph.specs.Graph.{key};
 ghost use Rattle.graph.specs.File.{vertexCount, edgeCount, edgeIn, graphFault};
 ghost use Rattle.graph.specs.Store.{loadFault};
-ghost use Rattle.graph_file.specs.inner.Reading.{Whole, vertexField, edgeWith, graphLengthFault, graphEdgesFault};
+ghost use Rattle.graph_file.specs.inner.Reading.{Whole, vertexField, edgeWith, graphLengthFault};
+ghost use Rattle.graph_file.specs.inner.Reading.{graphEdgesFault};
 use graph::Graph;
 use packed::field;
 
@@ -67,7 +69,8 @@ pub fn label(file: &[u8], n: usize, i: usize) -> u32
     forward_entry(file, n, i) / Graph::SPAN
 }
 
-// 1 where the file is shorter than 5 bytes or than its own size, 2 where it is longer or a fill bit is set, else 0.
+// 1 where the file is shorter than 5 bytes or than its own size, 2 where it is longer or a fill bit is set,
+// else 0.
 fn length_fault(file: &[u8]) -> u32
     ensures { λ r. ⌜ r ≡ graphLengthFault (now (file .entry)) ⌝ }
 {
@@ -97,8 +100,8 @@ fn edge_key(s: u32, e: u32) -> u64
     s as u64 * Graph::ENTRY_END as u64 + e as u64
 }
 
-// 3 or 4 of the first edge at fault, else 0. `least` is one more than the key of the edge before. The tests stand in the loop, so that each
-// is a branch that is never taken.
+// 3 or 4 of the first edge at fault, else 0. `least` is one more than the key of the edge before. The tests
+// stand in the loop, so that each is a branch that is never taken.
 fn edges_fault(file: &[u8], n: usize, m: usize) -> u32
     requires { ⌜ Whole (now file) n × (m ≡ edgeCount (now file)) ⌝ }
     ensures { λ r. ⌜ r ≡ graphEdgesFault (now (file .entry)) ⌝ }

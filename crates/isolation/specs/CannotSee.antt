@@ -14,8 +14,8 @@ use Rattle.plan_spectrum.specs.declared.OrderingsAnswer.{OrderingsAnswer}
 use Rattle.plan_spectrum.specs.Spectrum.{orderingsAnswer, orderingsWords}
 use Rattle.isolation.specs.Others.{TwoCompanies}
 
--- All that a caller of Run has in hand afterwards: the answer (refusal, rows, cost, build and probe rows), the list, the records and the
--- scratch.
+-- All that a caller of Run has in hand afterwards: the answer (refusal, rows, cost, build and probe rows),
+-- the list, the records and the scratch.
 pub record AfterRun : Type 0 where
   pub answer : RunAnswer
   pub list : List ℕ
@@ -37,7 +37,10 @@ pub record AfterDraw : Type 0 where
   pub bytes : List ℕ
 
 abbrev pub afterDraw : List ℕ → List ℕ → List ℕ → AfterDraw
-afterDraw store query bytes = record { answer = drawAnswer store query (length bytes); bytes = drawBytes store query bytes }
+afterDraw store query bytes = record {
+  answer = drawAnswer store query (length bytes);
+  bytes = drawBytes store query bytes;
+}
 
 -- And after all orderings of a small pattern: the answer, the lent words and the scratch.
 pub record AfterOrderings : Type 0 where
@@ -53,14 +56,16 @@ afterOrderings store query scratch words =
       scratch = runScratch scratch;
     }
 
--- No answer tells two stores apart: whatever plan, cache setting and buffers are lent, refused runs too. The bounds of a plan lend nothing: their
--- answer is all.
+-- No answer tells two stores apart: whatever plan, cache setting and buffers are lent, refused runs too. The
+-- bounds of a plan lend nothing: their answer is all.
 pub record CannotSee (query one two : List ℕ) : Type 0 where
   pub run : (cache : Bool) (plan scratch list : List ℕ) (records : List Record)
-      → afterRun cache one query plan scratch list records ≡ afterRun cache two query plan scratch list records
+      → afterRun cache one query plan scratch list records ≡ afterRun cache two query plan scratch list
+      records
   pub draw : (bytes : List ℕ) → afterDraw one query bytes ≡ afterDraw two query bytes
   pub bounds : (plan : List ℕ) → boundsAnswer one query plan ≡ boundsAnswer two query plan
-  pub orderings : (scratch words : List ℕ) → afterOrderings one query scratch words ≡ afterOrderings two query scratch words
+  pub orderings : (scratch words : List ℕ) → afterOrderings one query scratch words
+      ≡ afterOrderings two query scratch words
 
 -- What another company hangs cannot be seen in any answer.
 abbrev pub NonInterference : List ℕ → List ℕ → List ℕ → Type 0

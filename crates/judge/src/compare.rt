@@ -16,8 +16,8 @@ struct Ran {
     answer: RunAnswer,
 }
 
-// Another run of a plan, which gives `refusal`, if that is not 0, or does as the first: the same rows in the same order, the same
-// counts, and a cost no higher, without the cache the same. Answers the run's refusal.
+// Another run of a plan, which gives `refusal`, if that is not 0, or does as the first: the same rows in the
+// same order, the same counts, and a cost no higher, without the cache the same. Answers the run's refusal.
 fn judge_again(
     store: &Store,
     files: &Files,
@@ -40,8 +40,8 @@ fn judge_again(
     b.refusal
 }
 
-// Lengths of scratch ever closer to the need: those below `short` give 20, and it grows by ever smaller steps until it serves. Answers the
-// need.
+// Lengths of scratch ever closer to the need: those below `short` give 20, and it grows by ever smaller steps
+// until it serves. Answers the need.
 fn judge_scratch(store: &Store, files: &Files, ran: Ran, first: &List, tally: &mut Tally) -> usize {
     let mut w = ran.with;
     let mut short = 0;
@@ -85,7 +85,8 @@ fn judge_list(store: &Store, files: &Files, ran: Ran, first: &List, tally: &mut 
     }
 }
 
-// As many records as the plan has operators serve as well; one fewer gives 22, also where the list is too short.
+// As many records as the plan has operators serve as well; one fewer gives 22, also where the list is too
+// short.
 fn judge_records(store: &Store, files: &Files, ran: Ran, first: &List, tally: &mut Tally) {
     let mut w = ran.with;
     w.records = operators(files);
@@ -112,8 +113,8 @@ fn count_rows(a: RunAnswer, tally: &mut Tally) {
     count(tally, ROWS, a.rows as u64);
 }
 
-// All runs of the last of so many plans of a query; answers whether they were judged, and not too large for the scratch. The first
-// run is with the cache off; one with it on needs no more.
+// All runs of the last of so many plans of a query; answers whether they were judged, and not too large for
+// the scratch. The first run is with the cache off; one with it on needs no more.
 pub fn judge_plan(
     g: &Graph,
     store: &Store,

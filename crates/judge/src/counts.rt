@@ -26,7 +26,8 @@ fn lend(store: &[u32], files: &[u8], w: Lent, scratch: &mut [u32]) -> CountAnswe
     call_count(used, files, w, &mut scratch[0..words])
 }
 
-// A count over marked words. It clears the scratch, and touches nothing past what it is lent; refused, it answers zeros.
+// A count over marked words. It clears the scratch, and touches nothing past what it is lent; refused, it
+// answers zeros.
 fn marked_count(store: &Store, files: &Files, w: Lent, tally: &mut Tally) -> CountAnswer {
     let mut scratch = [MARK; LIST_WORDS];
     let c = lend(store, files, w, &mut scratch);
@@ -37,8 +38,8 @@ fn marked_count(store: &Store, files: &Files, w: Lent, tally: &mut Tally) -> Cou
     c
 }
 
-// In a scratch of the need it answers what a run without the cache did, but for a cost that may be lower with it, and the need; in one a word
-// shorter, 20.
+// In a scratch of the need it answers what a run without the cache did, but for a cost that may be lower with
+// it, and the need; in one a word shorter, 20.
 pub fn judge_count(
     store: &Store,
     files: &Files,

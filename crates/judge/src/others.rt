@@ -1,4 +1,5 @@
-// Edges of labels that a query does not name: over a second store that has others of them, Run and Draw plan answer and leave the same.
+// Edges of labels that a query does not name: over a second store that has others of them, Run and Draw plan
+// answer and leave the same.
 use crate::records::COUNT;
 use crate::runs;
 use judge_inputs::graphs;
@@ -42,7 +43,8 @@ fn same_records(one: [Record; COUNT], two: [Record; COUNT]) -> bool {
     true
 }
 
-// A run over each of two stores, the second of so many words: the answer, and every word and record afterwards.
+// A run over each of two stores, the second of so many words: the answer, and every word and record
+// afterwards.
 fn same_run(one: &Store, two: &Store, files: &Files, w: Lent, words: usize) -> bool {
     let mut scratch = [MARK; LIST_WORDS];
     let mut list = [MARK; LIST_WORDS];
@@ -109,7 +111,8 @@ fn few_records(seed: &mut u64, records: usize) -> usize {
     records
 }
 
-// A store with other edges of labels that a query does not name, one of any label excepted. The numbers drawn here are none of the stream's.
+// A store with other edges of labels that a query does not name, one of any label excepted. The numbers drawn
+// here are none of the stream's.
 pub fn judge_others(
     g: &Graph,
     q: &Query,

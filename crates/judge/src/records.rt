@@ -47,7 +47,8 @@ fn adds_up(records: [Record; COUNT], count: usize, a: RunAnswer) -> bool {
     (cost == a.cost) & (rows == a.rows as u64)
 }
 
-// Refused, a run answers zeros and touches no record; accepted, the records of its operators add up, and no other is touched.
+// Refused, a run answers zeros and touches no record; accepted, the records of its operators add up, and no
+// other is touched.
 pub fn judge(filled: Filled, count: usize, tally: &mut Tally) {
     let a = filled.answer;
     let records = filled.records;

@@ -1,4 +1,5 @@
-// The cases of document 01 that are not starred: 8 vertices or 24 edges read; 9 vertices, 1 vertex or 25 edges give 8.
+// The cases of document 01 that are not starred: 8 vertices or 24 edges read; 9 vertices, 1 vertex or 25
+// edges give 8.
 use crate::stream;
 use judge_inputs::bits::*;
 use judge_inputs::graphs;
@@ -22,8 +23,8 @@ fn set_query(q: &mut Query, n: usize, m: usize, first: usize, apart: usize) {
     }
 }
 
-// Over a graph of so many places and all edge labels, each edge drawn so many times of a hundred, the query reads and two plans
-// list its matches.
+// Over a graph of so many places and all edge labels, each edge drawn so many times of a hundred, the query
+// reads and two plans list its matches.
 fn judge_over(q: &Query, places: usize, percent: usize, seed: &mut u64, tally: &mut Tally) {
     let mut g = [0usize; graphs::WORDS];
     let mut store = [0u32; LIST_WORDS];

@@ -16,7 +16,8 @@ pub fn flip(file: &mut [u8], i: usize, bit: u8) {
     }
 }
 
-// Puts a field into a file whose bits there are 0, or turns over those that are 1 in it; answers the bit position after it.
+// Puts a field into a file whose bits there are 0, or turns over those that are 1 in it; answers the bit
+// position after it.
 pub fn put_field(file: &mut [u8], at: usize, width: usize, value: usize) -> usize {
     let mut rest = value;
     let mut i = width;

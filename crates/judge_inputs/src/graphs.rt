@@ -1,5 +1,6 @@
-// A graph: up to 16 vertices that may have edges, named by their places, and spread over the numbers below N. It is one array: the
-// words named below, then a cell for each source, label and target, in the file's order, which is 1 where the edge is there.
+// A graph: up to 16 vertices that may have edges, named by their places, and spread over the numbers below N.
+// It is one array: the words named below, then a cell for each source, label and target, in the file's order,
+// which is 1 where the edge is there.
 use crate::bits::*;
 use crate::random::*;
 
@@ -77,7 +78,8 @@ pub fn has(g: &Graph, s: usize, l: usize, t: usize) -> bool {
     g[CELLS + s % 16 * 64 + l % 4 * 16 + t % 16] == 1
 }
 
-// Turns the edge of a cell over, as often as is drawn. Place 0 is a hub: its edges are turned over twice as often.
+// Turns the edge of a cell over, as often as is drawn. Place 0 is a hub: its edges are turned over twice as
+// often.
 fn turn_edge(g: &mut Graph, cell: usize, percent: usize, seed: &mut u64) {
     let places = g[PLACES];
     let at = CELLS + cell % CELL_COUNT;
@@ -98,7 +100,8 @@ pub fn turn_edges(g: &mut Graph, percent: usize, seed: &mut u64) {
     }
 }
 
-// Turns edges over, one of four, whose labels' indices are not in a set of them. Every label is used from here on.
+// Turns edges over, one of four, whose labels' indices are not in a set of them. Every label is used from
+// here on.
 pub fn turn_others(g: &mut Graph, named: usize, seed: &mut u64) {
     g[LABEL_COUNT] = 4;
     for cell in 0..CELL_COUNT {
@@ -120,8 +123,8 @@ fn spread(g: &mut Graph, seed: &mut u64) {
     }
 }
 
-// A graph of so many places and edge labels, each edge drawn so many times of a hundred; every second has labels on its vertices, and four
-// of five have days.
+// A graph of so many places and edge labels, each edge drawn so many times of a hundred; every second has
+// labels on its vertices, and four of five have days.
 pub fn draw(g: &mut Graph, places: usize, edge_labels: usize, percent: usize, seed: &mut u64) {
     *g = [0; WORDS];
     g[PLACES] = places;
@@ -144,7 +147,8 @@ pub fn random(g: &mut Graph, seed: &mut u64) {
     draw(g, places, edge_labels, percent, seed);
 }
 
-// Writes the label and the day of a vertex number; one that has no place has no edges, and some label and day.
+// Writes the label and the day of a vertex number; one that has no place has no edges, and some label and
+// day.
 fn write_vertex(g: &Graph, v: usize, file: &mut [u8], at: usize) -> usize {
     let k = place(g, v);
     if k < NO_PLACE {
@@ -163,8 +167,8 @@ fn write_vertices(g: &Graph, file: &mut [u8], from: usize) -> usize {
     at
 }
 
-// Puts the edge of a cell, if an old graph has it and this one not, or the other way round; before it so many bits that are 1 where
-// this one has it.
+// Puts the edge of a cell, if an old graph has it and this one not, or the other way round; before it so many
+// bits that are 1 where this one has it.
 fn put_edge(g: &Graph, old: &Graph, cell: usize, bits: usize, file: &mut [u8], at: usize) -> usize {
     let has = g[CELLS + cell % CELL_COUNT];
     if old[CELLS + cell % CELL_COUNT] == has {

@@ -1,5 +1,5 @@
-// A plan: one array with the words named below, the pile of the sets that the results cover, and the operators, each as a number:
-// 32 for each kind, and the operand.
+// A plan: one array with the words named below, the pile of the sets that the results cover, and the
+// operators, each as a number: 32 for each kind, and the operand.
 use crate::bits::*;
 use crate::queries;
 use crate::queries::Query;
@@ -67,7 +67,8 @@ fn next_to_set(q: &Query, set: usize) -> usize {
     found
 }
 
-// Two results may be joined: they share a vertex, each has one that the other lacks, and no edge leads from these to those.
+// Two results may be joined: they share a vertex, each has one that the other lacks, and no edge leads from
+// these to those.
 fn may_join(q: &Query, a: usize, b: usize) -> bool {
     let shared = a & b;
     let lost = next_to_set(q, a ^ shared) & (b ^ shared);
@@ -96,8 +97,8 @@ fn is_finished(p: &Plan, q: &Query) -> bool {
     (p[DEPTH] == 1) & (add(p[SETS], 1) == 1usize << (q[queries::VERTICES] % 16))
 }
 
-// Step i: one more operator, on an empty plan after as many steps as a plan has operators at most; answers whether it is finished. From
-// step 500 on a plan has one scan.
+// Step i: one more operator, on an empty plan after as many steps as a plan has operators at most; answers
+// whether it is finished. From step 500 on a plan has one scan.
 fn step_on(p: &mut Plan, q: &Query, i: usize, scans: usize, seed: &mut u64) -> bool {
     if i % MAX_OPERATORS == 0 {
         *p = [0; WORDS];

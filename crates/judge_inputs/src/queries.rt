@@ -1,5 +1,6 @@
-// A query: one array with the words named below, for each vertex the set of those next to it, the edges in the file's order, and a
-// cell for each from, to and label, which is 1 where the edge is there. An edge is the number of its cell.
+// A query: one array with the words named below, for each vertex the set of those next to it, the edges in
+// the file's order, and a cell for each from, to and label, which is 1 where the edge is there. An edge is
+// the number of its cell.
 use crate::bits::*;
 use crate::graphs;
 use crate::graphs::Graph;
@@ -57,7 +58,8 @@ pub fn target(edge: usize) -> usize {
     edge / 4 % 8
 }
 
-// The label that the file has for an edge. Of the four, 0 is any label, and the others are the graph's first three.
+// The label that the file has for an edge. Of the four, 0 is any label, and the others are the graph's first
+// three.
 fn edge_label(edge: usize) -> usize {
     if edge % 4 == 0 {
         return 0;
@@ -162,7 +164,8 @@ fn random_edge(a: usize, b: usize, seed: &mut u64) -> usize {
     b % 8 * 32 + a % 8 * 4 + l % 4
 }
 
-// Adds an edge if it may be any, or else if the graph has it between the places of its ends; answers whether it did.
+// Adds an edge if it may be any, or else if the graph has it between the places of its ends; answers whether
+// it did.
 fn try_edge(q: &mut Query, g: &Graph, row: &[usize; 8], edge: usize, any: bool) -> bool {
     let s = row[source(edge) % 8];
     let t = row[target(edge) % 8];
@@ -173,8 +176,8 @@ fn try_edge(q: &mut Query, g: &Graph, row: &[usize; 8], edge: usize, any: bool) 
     false
 }
 
-// Gives the next vertex a place that none has yet, and an edge to one before it if the edge will do; or, if the edge may be any, any
-// place.
+// Gives the next vertex a place that none has yet, and an edge to one before it if the edge will do; or, if
+// the edge may be any, any place.
 fn join_vertex(q: &mut Query, g: &Graph, row: &mut [usize; 8], any: bool, seed: &mut u64) {
     let v = q[JOINED];
     let k = below(seed, g[graphs::PLACES]);
@@ -189,7 +192,8 @@ fn join_vertex(q: &mut Query, g: &Graph, row: &mut [usize; 8], any: bool, seed: 
     }
 }
 
-// Step i: joins the next vertex, in every sixteenth step by any edge; or, where all are joined, adds an edge so many times of a hundred.
+// Step i: joins the next vertex, in every sixteenth step by any edge; or, where all are joined, adds an edge
+// so many times of a hundred.
 fn grow(
     q: &mut Query,
     g: &Graph,
@@ -230,7 +234,8 @@ fn draw_pair(q: &mut Query, row: &[usize; 8], turned: usize, seed: &mut u64) {
     }
 }
 
-// Pairs in every second query: a few, or, in an eighth, up to the most; in a fourth they may contradict each other.
+// Pairs in every second query: a few, or, in an eighth, up to the most; in a fourth they may contradict each
+// other.
 fn draw_pairs(q: &mut Query, row: &[usize; 8], seed: &mut u64) {
     let few = add(1, below(seed, 3));
     let count = if chance(seed, 12) { 48 } else { few };
@@ -325,7 +330,8 @@ fn write_pairs(q: &Query, file: &mut [u8], from: usize) -> usize {
     at
 }
 
-// Lists the edges of a query that was just made, writes its file over zeros, and answers the file's length in bytes.
+// Lists the edges of a query that was just made, writes its file over zeros, and answers the file's length in
+// bytes.
 pub fn write(q: &mut Query, file: &mut [u8]) -> usize {
     let edges = put_field(file, 0, 4, q[VERTICES]);
     let vertices = put_field(file, edges, 5, q[EDGES]);

@@ -44,7 +44,8 @@ fn judge_damaged(old: &[u32], long: &[u8], tally: &mut Tally) {
     );
 }
 
-// Changes to an old store make the one that the edited graph's file loads to; in a word less they are refused with 5. Answers its words.
+// Changes to an old store make the one that the edited graph's file loads to; in a word less they are refused
+// with 5. Answers its words.
 fn judge_applied(h: &Graph, old: &[u32], file: &[u8], new: &mut Store, tally: &mut Tally) -> usize {
     let mut loaded = [0u32; LIST_WORDS];
     let words = store_words(h[graphs::VERTICES], h[graphs::EDGES]);
@@ -58,7 +59,8 @@ fn judge_applied(h: &Graph, old: &[u32], file: &[u8], new: &mut Store, tally: &m
     words
 }
 
-// Changes to a graph, applied to its store; to the new store, which has them already, they are refused with 28.
+// Changes to a graph, applied to its store; to the new store, which has them already, they are refused with
+// 28.
 fn judge_changed(g: &Graph, h: &Graph, old: &Store, new: &mut Store, tally: &mut Tally) {
     let mut edits = [0u8; graphs::FILE_BYTES];
     let size = graphs::write_changes(h, g, &mut edits);

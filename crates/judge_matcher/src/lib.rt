@@ -1,4 +1,5 @@
-// What the engine is held to: the matcher, marked words, and what Load and Apply changes leave; and the tally of what was compared.
+// What the engine is held to: the matcher, marked words, and what Load and Apply changes leave; and the tally
+// of what was compared.
 pub mod edits;
 pub mod files;
 pub mod lent;

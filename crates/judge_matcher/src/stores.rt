@@ -8,7 +8,8 @@ use judge_inputs::graphs::Graph;
 use judge_inputs::random::below;
 use load::Loaded;
 
-// What Load or Apply changes leaves of so many marked words: it touches none past the used ones, and none at all where it is refused.
+// What Load or Apply changes leaves of so many marked words: it touches none past the used ones, and none at
+// all where it is refused.
 pub fn judge_store(a: Loaded, store: &Store, words: usize, tally: &mut Tally) {
     let zeros = (a.vertices == 0) & (a.edges == 0);
     let counted = store_words(a.vertices, a.edges);

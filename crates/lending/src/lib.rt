@@ -19,7 +19,8 @@ pub struct Filled {
     pub records: [Record; Plan::MAX_OPERATORS],
 }
 
-// Run, which is lent no more records than there are. A slice of structs is made of an array, so it is proved by hand.
+// Run, which is lent no more records than there are. A slice of structs is made of an array, so it is proved
+// by hand.
 fn lend(
     store: &[u32],
     query: &[u8],
@@ -30,7 +31,8 @@ fn lend(
     held: Lending,
 ) -> Filled
     requires { ⌜ held .lent ≤ maxOperators ⌝ }
-    ensures { λ r. ⌜ Fills cache (now (store .entry)) (now (query .entry)) (now (plan .entry)) (now (scratch .entry)) (now (scratch .exit)) (now (list .entry)) (now (list .exit)) held r ⌝ }
+    ensures { λ r. ⌜ Fills cache (now (store .entry)) (now (query .entry)) (now (plan .entry))
+        (now (scratch .entry)) (now (scratch .exit)) (now (list .entry)) (now (list .exit)) held r ⌝ }
 {
     let lent = held.lent;
     let mut records = held.records;
@@ -56,7 +58,8 @@ pub fn run_lending(
     list: &mut [u32],
     held: Lending,
 ) -> Filled
-    ensures { λ r. ⌜ Fills cache (now (store .entry)) (now (query .entry)) (now (plan .entry)) (now (scratch .entry)) (now (scratch .exit)) (now (list .entry)) (now (list .exit)) held r ⌝ }
+    ensures { λ r. ⌜ Fills cache (now (store .entry)) (now (query .entry)) (now (plan .entry))
+        (now (scratch .entry)) (now (scratch .exit)) (now (list .entry)) (now (list .exit)) held r ⌝ }
 {
     if Plan::MAX_OPERATORS < held.lent {
         let records = held.records;

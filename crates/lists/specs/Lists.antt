@@ -1,5 +1,6 @@
--- Lists of numbers, rows and edges: testing, choosing, counting, sorting. `all`, `any` and `range` mean what mathlib's do, which are not
--- cited since its `all` and `any` cannot be computed outside their module and its `range` is of other numbers. Assumes nothing.
+-- Lists of numbers, rows and edges: testing, choosing, counting, sorting. `all`, `any` and `range` mean what
+-- mathlib's do, which are not cited since its `all` and `any` cannot be computed outside their module and its
+-- `range` is of other numbers. Assumes nothing.
 use mathlib.Core.Bool.{Bool, true, false, cond, _&&_, _||_}
 use mathlib.Core.List.{List, [], _∷_, _++_}
 use Prim.Native.Nat.{ℕ, zero, suc, _+_, max}

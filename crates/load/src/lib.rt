@@ -1,4 +1,5 @@
-// Load: the graph file's faults, and the store of sorted labelled neighbour lists that an accepted file is loaded to.
+// Load: the graph file's faults, and the store of sorted labelled neighbour lists that an accepted file is
+// loaded to.
 ghost use mathlib.Core.Path.{_≡_};
 ghost use lib.ListN.{length};
 ghost use Rattle.graph.specs.Store.{loadStore};
@@ -13,7 +14,8 @@ pub struct Loaded {
     pub edges: usize,
 }
 
-// The refusal of a file or of a store that is too small, with the store untouched; or the counts, with the graph in the store.
+// The refusal of a file or of a store that is too small, with the store untouched; or the counts, with the
+// graph in the store.
 pub fn load(file: &[u8], store: &mut [u32]) -> Loaded
     ensures answer { λ r. ⌜ r ≡ loadAnswer (now (file .entry)) (length (now (store .entry))) ⌝ }
     ensures words { λ _. ⌜ now (store .exit) ≡ loadStore (now (file .entry)) (now (store .entry)) ⌝ }

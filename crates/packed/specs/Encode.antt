@@ -14,7 +14,8 @@ number f at (suc w) = number f at w * 2 + f (at + w)
 abbrev pub bytesBy : (ℕ → ℕ) → ℕ → List ℕ
 bytesBy f k = map (λ (i : ℕ). number f (8 * i) 8) (range k)
 
--- The bit at a position of a list of bits, 0 past the end. Of any other number it is the parity, so that no test is needed.
+-- The bit at a position of a list of bits, 0 past the end. Of any other number it is the parity, so that no
+-- test is needed.
 abbrev pub bitIn : List ℕ → ℕ → ℕ
 bitIn bits i = getD bits i 0 % 2
 

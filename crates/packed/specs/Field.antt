@@ -1,4 +1,5 @@
--- Fields of a packed file: 'most significant bit first, with no gaps; zero bits fill the last byte'. Assumes nothing.
+-- Fields of a packed file: 'most significant bit first, with no gaps; zero bits fill the last byte'. Assumes
+-- nothing.
 use mathlib.Core.Bool.{Bool, not}
 use mathlib.Core.List.{List}
 use Prim.Native.Nat.{ℕ, zero, suc, _+_, _-_, _*_, _/_, _%_, _^_}

@@ -1,4 +1,5 @@
--- The packed files: 'fields are bit-packed, most significant bit first, with no gaps; zero bits fill the last byte'.
+-- The packed files: 'fields are bit-packed, most significant bit first, with no gaps; zero bits fill the last
+-- byte'.
 pub mod Field
 pub mod Encode
 pub mod inner

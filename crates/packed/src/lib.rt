@@ -29,7 +29,8 @@ fn inner_word(s: &[u8], i: usize) -> u64
     join(s[i], s[i + 1], s[i + 2], s[i + 3])
 }
 
-// The 32 bits from byte `i` on; bytes past the end count as 0. Only near a file's end are there fewer than four.
+// The 32 bits from byte `i` on; bytes past the end count as 0. Only near a file's end are there fewer than
+// four.
 fn word(s: &[u8], i: usize) -> u64
     requires { ⌜ i ≤ length (now s) ⌝ }
     ensures { λ r. ⌜ r ≡ fieldAt (now (s .entry)) (8 * i) 32 ⌝ }
@@ -48,8 +49,8 @@ fn cut(w: u64, after: usize, width: usize) -> u64
     (w >> after) & ((1u64 << width) - 1)
 }
 
-// The number in the field of `width` bits that begins at bit `at`. Up to 7 bits stand before it in its first byte, so it
-// lies in the 32 bits from there on.
+// The number in the field of `width` bits that begins at bit `at`. Up to 7 bits stand before it in its first
+// byte, so it lies in the 32 bits from there on.
 pub fn field(s: &[u8], at: usize, width: usize) -> u32
     requires { ⌜ (width ≤ 25) × (at + width ≤ 8 * length (now s)) ⌝ }
     ensures { λ r. ⌜ r ≡ fieldAt (now (s .entry)) at width ⌝ }

@@ -26,8 +26,9 @@ fn put_word(s: &mut [u8], i: usize, w: u64)
     put_byte(s, i + 3, (w % 256) as u8);
 }
 
-// Writes a number to the field of `width` bits that begins at bit `at`; all other bits stay. As in `field`, the field lies in the
-// 32 bits from its first byte on: there what it held is taken away and the number put in its place.
+// Writes a number to the field of `width` bits that begins at bit `at`; all other bits stay. As in `field`,
+// the field lies in the 32 bits from its first byte on: there what it held is taken away and the number put
+// in its place.
 pub fn put_field(s: &mut [u8], at: usize, width: usize, x: u32)
     requires { ⌜ (width ≤ 25) × (at + width ≤ 8 * length (now s)) × (x < 2 ^ width) ⌝ }
     ensures { λ _. ⌜ now (s .exit) ≡ putField (now (s .entry)) at width x ⌝ }

@@ -10,7 +10,8 @@ use Rattle.graph.specs.Graph.{Edge}
 use Rattle.query.specs.Query.{Query, VertexSet, edgeAt, inside, touches}
 use Rattle.plan.specs.Plan.{Operator, scan, extend, join, ends, plus, union}
 
--- 'They share a vertex, each has one that the other lacks, and every query edge within their union lies within one of them.'
+-- 'They share a vertex, each has one that the other lacks, and every query edge within their union lies
+-- within one of them.'
 unfoldable pub joinable : Query → VertexSet → VertexSet → Bool
 joinable q B P =
     any (λ (w : ℕ). B w && P w) (range (q .vertices))
@@ -18,7 +19,8 @@ joinable q B P =
     && any (λ (w : ℕ). P w && not (B w)) (range (q .vertices))
     && all (λ (e : Edge). inside (union B P) e implies (inside B e || inside P e)) (q .edges)
 
--- '15 too few results in the pile, 16 extend by a covered vertex or with no edge to S, 17 a join rule broken.'
+-- '15 too few results in the pile, 16 extend by a covered vertex or with no edge to S, 17 a join rule
+-- broken.'
 unfoldable pub ruleFault : Query → Operator → List VertexSet → ℕ
 ruleFault q (scan i) pile = 0
 ruleFault q (extend v) [] = 15
@@ -39,7 +41,8 @@ covered q join (P ∷ B ∷ pile) = union B P ∷ pile
 -- 'At the end 15 for more than one result, 18 a vertex uncovered.'
 unfoldable pub endFault : Query → List VertexSet → ℕ
 endFault q [] = 18
-endFault q (S ∷ pile) = first (refuse 15 (ltb 0 (length pile)) ∷ refuse 18 (not (all S (range (q .vertices)))) ∷ [])
+endFault q (S ∷ pile) = first (refuse 15 (ltb 0 (length pile)) ∷ refuse 18 (not (all S (range (q .vertices))))
+    ∷ [])
 
 -- The first fault of the operators in order, then of the end.
 unfoldable pub rulesFault : Query → List VertexSet → List Operator → ℕ

@@ -1,5 +1,6 @@
--- The plan file: 'operator count (5 bits, 1 to 31), then operators: kind (2 bits); 0 scan with a query edge's index (5), 1
--- extend with a query vertex (3), 2 join with nothing more', and what Check plan answers. Assumes nothing.
+-- The plan file: 'operator count (5 bits, 1 to 31), then operators: kind (2 bits); 0 scan with a query edge's
+-- index (5), 1 extend with a query vertex (3), 2 join with nothing more', and what Check plan answers.
+-- Assumes nothing.
 use mathlib.Core.Bool.{cond, not, _&&_}
 use mathlib.Core.List.{List, [], _∷_, _++_, map}
 use Prim.Native.Nat.{ℕ, zero, suc, _+_}
@@ -29,7 +30,8 @@ operandAt s at = fieldAt s (at + 2) (operandBits (kindAt s at))
 
 abbrev pub operatorAt : List ℕ → ℕ → Operator
 operatorAt s at =
-    cond (eqb (kindAt s at) scanKind) (scan (operandAt s at)) (cond (eqb (kindAt s at) extendKind) (extend (operandAt s at)) join)
+    cond (eqb (kindAt s at) scanKind) (scan (operandAt s at))
+    (cond (eqb (kindAt s at) extendKind) (extend (operandAt s at)) join)
 
 -- Where operator i begins.
 unfoldable pub place : List ℕ → ℕ → ℕ
@@ -42,7 +44,8 @@ place s (suc i) =
 unfoldable pub operatorsOf : List ℕ → List Operator
 operatorsOf s = map (λ (i : ℕ). operatorAt s (place s i)) (range (operatorCount s))
 
--- 'Field by field, 12 the bits run out, 14 kind 3, or an edge or vertex the query lacks', of the operator at a position.
+-- 'Field by field, 12 the bits run out, 14 kind 3, or an edge or vertex the query lacks', of the operator at
+-- a position.
 abbrev pub operatorFault : Query → List ℕ → ℕ → ℕ
 operatorFault q s at =
     first
@@ -53,7 +56,8 @@ operatorFault q s at =
     ∷ refuse 14 (eqb (kindAt s at) extendKind && not (ltb (operandAt s at) (q .vertices)))
     ∷ [])
 
--- 'Field by field, 12 .., 14 count 0, ..; 13 a further byte or a fill bit set; then by operator', for a query that was read.
+-- 'Field by field, 12 .., 14 count 0, ..; 13 a further byte or a fill bit set; then by operator', for a query
+-- that was read.
 unfoldable pub planFault : Query → List ℕ → ℕ
 planFault q s =
     let end = place s (operatorCount s) in

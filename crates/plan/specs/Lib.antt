@@ -1,4 +1,5 @@
--- The plan: operators in postfix order, their file, the faults for which Check plan refuses one, and the code's structs.
+-- The plan: operators in postfix order, their file, the faults for which Check plan refuses one, and the
+-- code's structs.
 pub mod Plan
 pub mod Check
 pub mod File

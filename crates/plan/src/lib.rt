@@ -1,5 +1,5 @@
-// The plan: operators in postfix order over a pile of results. `specs/` says what a plan file holds and when it is refused,
-// `proofs/` has the laws; `plan_file` reads and checks one.
+// The plan: operators in postfix order over a pile of results. `specs/` says what a plan file holds and when
+// it is refused, `proofs/` has the laws; `plan_file` reads and checks one.
 use query::Edge;
 use query::set;
 ghost use mathlib.Core.Path.{_≡_};

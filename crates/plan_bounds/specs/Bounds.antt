@@ -1,4 +1,5 @@
--- What the operators of a plan are bounded by over a graph, without a run: rows, need and cost. Assumes nothing.
+-- What the operators of a plan are bounded by over a graph, without a run: rows, need and cost. Assumes
+-- nothing.
 use mathlib.Core.Bool.{cond}
 use mathlib.Core.List.{List, [], _∷_}
 use Prim.Native.Nat.{ℕ, _+_, _*_, min, max}
@@ -21,24 +22,29 @@ least f (x ∷ y ∷ xs) = min (f x) (least f (y ∷ xs))
 unfoldable pub longestPortion : Graph → Direction → ℕ → ℕ
 longestPortion g d l = largest (portionLength g d l) (range (g .vertices))
 
--- The longest portion for a query edge between v and S: for 'that edge's label and direction', from its end in S, towards v.
+-- The longest portion for a query edge between v and S: for 'that edge's label and direction', from its end
+-- in S, towards v.
 unfoldable pub longestFor : Graph → ℕ → Edge → ℕ
-longestFor g v e = cond (eqb (e .source) v) (longestPortion g backward (e .label)) (longestPortion g forward (e .label))
+longestFor g v e = cond (eqb (e .source) v) (longestPortion g backward (e .label))
+    (longestPortion g forward (e .label))
 
--- 'The least, over its query edges, of the longest portion', which bounds an extend's longest set; and 'the sum of those longest portions'.
+-- 'The least, over its query edges, of the longest portion', which bounds an extend's longest set; and 'the
+-- sum of those longest portions'.
 unfoldable pub leastPortion : Graph → Query → VertexSet → ℕ → ℕ
 leastPortion g q S v = least (longestFor g v) (keep (between v S) (q .edges))
 
 unfoldable pub sumOfPortions : Graph → Query → VertexSet → ℕ → ℕ
 sumOfPortions g q S v = total (longestFor g v) (keep (between v S) (q .edges))
 
--- What bounds a result over a set of query vertices: its rows, and the words that it needs while they are made.
+-- What bounds a result over a set of query vertices: its rows, and the words that it needs while they are
+-- made.
 pub record Bound : Type 0 where
   pub vertices : VertexSet
   pub rows : ℕ
   pub need : ℕ
 
--- 'Need follows by the sums of Paper 10': an extend's, and a join's, over bounds in place of the real numbers.
+-- 'Need follows by the sums of Paper 10': an extend's, and a join's, over bounds in place of the real
+-- numbers.
 abbrev pub extendBound : Graph → Query → ℕ → Bound → ℕ
 extendBound g q v b = b .need + width (q .vertices) (plus v (b .vertices)) + leastPortion g q (b .vertices) v
 
@@ -48,9 +54,11 @@ boundWords q b = b .rows * width (q .vertices) (b .vertices)
 abbrev pub joinBound : Query → Bound → Bound → ℕ
 joinBound q b p =
     max (b .need + boundWords q b)
-    (boundWords q b + b .rows + heads (b .rows) + p .need + width (q .vertices) (union (b .vertices) (p .vertices)))
+    (boundWords q b + b .rows + heads (b .rows) + p .need + width (q .vertices)
+    (union (b .vertices) (p .vertices)))
 
--- 'A scan by its label's edges (label 0: all); an extend by operand rows times the least ..; a join by the product of its sides.'
+-- 'A scan by its label's edges (label 0: all); an extend by operand rows times the least ..; a join by the
+-- product of its sides.'
 unfoldable pub rowsBound : Graph → Query → Operator → List Bound → ℕ
 rowsBound g q (scan i) pile = edgesOf g (edgeAt q i .label)
 rowsBound g q (extend v) [] = 0
@@ -112,8 +120,8 @@ unfoldable pub topNeedBound : List Bound → ℕ
 topNeedBound [] = 0
 topNeedBound (b ∷ pile) = b .need
 
--- The four numbers of a plan, as plain numbers: the words of its list, those of its scratch, its cost, and the largest row bound of any
--- of its operators.
+-- The four numbers of a plan, as plain numbers: the words of its list, those of its scratch, its cost, and
+-- the largest row bound of any of its operators.
 unfoldable pub listBound : Graph → Query → List Operator → ℕ
 listBound g q os = q .vertices * topRowsBound (boundsAfter g q [] os)
 

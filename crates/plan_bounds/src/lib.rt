@@ -1,5 +1,6 @@
-// Bounds of a plan without a run: from a store, a query and a plan to the words of list and scratch to set aside, the cost and the largest number of
-// rows of any operator, none of which a run passes. `specs/` says what they are and what is promised of a run, `proofs/` that it is so.
+// Bounds of a plan without a run: from a store, a query and a plan to the words of list and scratch to set
+// aside, the cost and the largest number of rows of any operator, none of which a run passes. `specs/` says
+// what they are and what is promised of a run, `proofs/` that it is so.
 mod capped;
 mod longest;
 mod pile;
@@ -7,7 +8,8 @@ mod pile;
 ghost use mathlib.Core.Path.{_≡_};
 ghost use Rattle.plan_bounds.specs.Answer.{boundsAnswer};
 
-// What is answered: a refusal with zeros, or 0 with the four numbers, each one too large for 64 bits as the largest of them.
+// What is answered: a refusal with zeros, or 0 with the four numbers, each one too large for 64 bits as the
+// largest of them.
 pub struct BoundsAnswer {
     pub refusal: u32,
     pub list_words: u64,
@@ -18,7 +20,13 @@ pub struct BoundsAnswer {
 
 impl BoundsAnswer {
     fn refused(refusal: u32) -> Self
-        ensures { λ r. ⌜ r ≡ record { refusal = refusal; «list_words» = 0; «scratch_words» = 0; cost = 0; largest = 0 } ⌝ }
+        ensures { λ r. ⌜ r ≡ record {
+          refusal = refusal;
+          «list_words» = 0;
+          «scratch_words» = 0;
+          cost = 0;
+          largest = 0;
+        } ⌝ }
     {
         BoundsAnswer {
             refusal,

@@ -41,8 +41,10 @@ impl Portions {
 
     // With one more.
     fn with(self, length: usize) -> Self
-        requires { ⌜ (self .count < maxEdges) × (self .sum ≤ maxEdges * maxGraphEdges) × (length ≤ maxGraphEdges) ⌝ }
-        ensures { λ r. ⌜ ((lengths : List ℕ) → Seen lengths self → Seen (lengths ++ (length ∷ [])) r) × (r .count ≡ self .count + 1) × (r .sum ≡ self .sum + length) ⌝ }
+        requires { ⌜ (self .count < maxEdges) × (self .sum ≤ maxEdges * maxGraphEdges)
+            × (length ≤ maxGraphEdges) ⌝ }
+        ensures { λ r. ⌜ ((lengths : List ℕ) → Seen lengths self → Seen (lengths ++ (length ∷ [])) r)
+            × (r .count ≡ self .count + 1) × (r .sum ≡ self .sum + length) ⌝ }
     {
         if self.count == 0 {
             return Portions {
@@ -66,10 +68,12 @@ impl Portions {
     }
 }
 
-// The longest portion that any vertex has for a label on a side. A vertex whose whole list is no longer than the longest so far is passed over.
+// The longest portion that any vertex has for a label on a side. A vertex whose whole list is no longer than
+// the longest so far is passed over.
 fn longest(store: &[u32], n: usize, side: usize, label: u32) -> usize
     requires { ⌜ Sided (now store) n side × (label < suc maxEdgeLabel) ⌝ }
-    ensures { λ r. ⌜ ((d : Direction) → side ≡ sideIn d (now (store .entry)) → r ≡ longestPortion (graphIn (now (store .entry))) d label) ⌝ }
+    ensures { λ r. ⌜ ((d : Direction) → side ≡ sideIn d (now (store .entry))
+        → r ≡ longestPortion (graphIn (now (store .entry))) d label) ⌝ }
 {
     let mut most = 0;
     let mut v = 0;

@@ -31,7 +31,8 @@ pub struct Bounded {
     pub need: u64,
 }
 
-// The bounds of the results in the pile, the top one at depth - 1, and the cost and the largest number of rows so far.
+// The bounds of the results in the pile, the top one at depth - 1, and the cost and the largest number of
+// rows so far.
 pub struct Pile {
     pub depth: usize,
     pub sets: [u32; Plan::MAX_OPERATORS],
@@ -68,7 +69,8 @@ impl Pile {
         }
     }
 
-    // The pile after an operator of a cost, whose result is so bounded, in place of as many results as it takes.
+    // The pile after an operator of a cost, whose result is so bounded, in place of as many results as it
+    // takes.
     fn put(mut self, taken: usize, b: Bounded, cost: u64) -> Self
         requires { ⌜ (taken ≤ self .depth) × (self .depth - taken < maxOperators) ⌝ }
         ensures { λ r. ⌜ Put self taken b cost r ⌝ }
@@ -87,7 +89,8 @@ impl Pile {
 // A result extended to a set and a width.
 fn extended(b: Bounded, set: u32, width: usize, least: usize) -> Bounded
     requires { ⌜ (width ≤ 8) × (least ≤ 4294967295) ⌝ }
-    ensures { λ r. ⌜ (r .set ≡ set) × (r .rows ≡ given (b .rows * least)) × (r .need ≡ given (b .need + (width + least))) ⌝ }
+    ensures { λ r. ⌜ (r .set ≡ set) × (r .rows ≡ given (b .rows * least))
+        × (r .need ≡ given (b .need + (width + least))) ⌝ }
 {
     Bounded {
         set,
@@ -103,7 +106,8 @@ fn table(words: u64, rows: u64) -> u64
     capped::add(words, capped::add(rows, capped::heads(rows)))
 }
 
-// What a join needs, of the build rows' words, the build's need, its table's words, the probe's need and a width of its own.
+// What a join needs, of the build rows' words, the build's need, its table's words, the probe's need and a
+// width of its own.
 fn join_need(words: u64, build: u64, table: u64, probe: u64, width: usize) -> u64
     requires { ⌜ width ≤ 8 ⌝ }
     ensures { λ r. ⌜ r ≡ max (given (build + words)) (given (table + given (probe + width))) ⌝ }
@@ -119,7 +123,8 @@ fn joined(b: Bounded, p: Bounded, build_width: usize, set: u32, width: usize) ->
     requires { ⌜ («build_width» ≤ 8) × (width ≤ 8) ⌝ }
     ensures { λ r. ⌜ (r .set ≡ set) × (r .rows ≡ given (b .rows * p .rows))
         × (r .need ≡ max (given (b .need + given (b .rows * «build_width»)))
-        (given (given (given (b .rows * «build_width») + given (b .rows + given (heads (b .rows)))) + given (p .need + width)))) ⌝ }
+        (given (given (given (b .rows * «build_width») + given (b .rows + given (heads (b .rows)))) + given
+        (p .need + width)))) ⌝ }
 {
     let words = capped::times(b.rows, build_width as u64);
     Bounded {
@@ -187,7 +192,8 @@ fn after_join(q: Query, pile: Pile) -> Pile
 
 // The pile after an operator.
 fn after(store: &[u32], q: Query, o: Operator, pile: Pile) -> Pile
-    requires { ⌜ Drawable q × (storeFault (now store) ≡ 0) × (named (queryIn q) (operatorIs o) ≡ true) × (pile .depth < maxOperators) ⌝ }
+    requires { ⌜ Drawable q × (storeFault (now store) ≡ 0) × (named (queryIn q) (operatorIs o) ≡ true)
+        × (pile .depth < maxOperators) ⌝ }
     ensures { λ r. ⌜ After (graphIn (now (store .entry))) (queryIn q) (operatorIs o) pile r ⌝ }
 {
     match o {
@@ -199,8 +205,10 @@ fn after(store: &[u32], q: Query, o: Operator, pile: Pile) -> Pile
 
 // The pile after all operators.
 fn whole(store: &[u32], q: Query, plan: Plan) -> Pile
-    requires { ⌜ Drawable q × (storeFault (now store) ≡ 0) × (plan .operators ≤ maxOperators) × (all (named (queryIn q)) (operatorsIn plan) ≡ true) ⌝ }
-    ensures { λ r. ⌜ Piled (boundsAfter (graphIn (now (store .entry))) (queryIn q) [] (operatorsIn plan)) (stepBounds (graphIn (now (store .entry))) (queryIn q) [] (operatorsIn plan)) r
+    requires { ⌜ Drawable q × (storeFault (now store) ≡ 0) × (plan .operators ≤ maxOperators)
+        × (all (named (queryIn q)) (operatorsIn plan) ≡ true) ⌝ }
+    ensures { λ r. ⌜ Piled (boundsAfter (graphIn (now (store .entry))) (queryIn q) [] (operatorsIn plan))
+        (stepBounds (graphIn (now (store .entry))) (queryIn q) [] (operatorsIn plan)) r
         × (r .depth ≤ maxOperators) ⌝ }
 {
     let mut pile = Pile::none();
@@ -214,7 +222,8 @@ fn whole(store: &[u32], q: Query, plan: Plan) -> Pile
 
 // The four numbers of a query and a plan that were read, over an accepted store.
 pub fn answer(store: &[u32], q: Query, plan: Plan) -> BoundsAnswer
-    requires { ⌜ Drawable q × (storeFault (now store) ≡ 0) × (plan .operators ≤ maxOperators) × (all (named (queryIn q)) (operatorsIn plan) ≡ true) ⌝ }
+    requires { ⌜ Drawable q × (storeFault (now store) ≡ 0) × (plan .operators ≤ maxOperators)
+        × (all (named (queryIn q)) (operatorsIn plan) ≡ true) ⌝ }
     ensures { λ r. ⌜ Numbers (graphIn (now (store .entry))) (queryIn q) (operatorsIn plan) r ⌝ }
 {
     let pile = whole(store, q, plan);

@@ -1,4 +1,5 @@
-// The plan file: the operator count (5 bits), then each operator's kind (2) and operand (5, 3 or 0 by its kind).
+// The plan file: the operator count (5 bits), then each operator's kind (2) and operand (5, 3 or 0 by its
+// kind).
 use packed::bytes_for;
 use packed::field;
 use packed::fill_set;
@@ -10,7 +11,8 @@ ghost use Rattle.lists.specs.Refusal.{first};
 ghost use Rattle.packed.specs.Field.{bitsIn, bytesFor};
 ghost use Rattle.plan.specs.File.{operatorCount, kindAt, operandBits, operandAt, operatorFault};
 ghost use Rattle.plan.specs.Plan.{maxOperators};
-ghost use Rattle.plan_file.specs.inner.Parts.{ofSize, operandFault, endFaults, operatorsFaults, planFileFault};
+ghost use Rattle.plan_file.specs.inner.Parts.{ofSize, operandFault, endFaults, operatorsFaults};
+ghost use Rattle.plan_file.specs.inner.Parts.{planFileFault};
 
 pub fn operator_count(file: &[u8]) -> usize
     requires { ⌜ 0 < length (now file) ⌝ }
@@ -67,8 +69,8 @@ fn operand_fault(kind: u32, operand: usize, n: usize, m: usize) -> u32
     0
 }
 
-// Field by field, 12 where the bits run out, 14 for kind 3 or an edge or vertex the query lacks, else 0: of the operator at
-// a position.
+// Field by field, 12 where the bits run out, 14 for kind 3 or an edge or vertex the query lacks, else 0: of
+// the operator at a position.
 fn operator_fault(file: &[u8], at: usize, n: usize, m: usize) -> u32
     requires { ⌜ at < 2 ^ 32 ⌝ }
     ensures { λ r. ⌜ r ≡ operatorFault (ofSize n m) (now (file .entry)) at ⌝ }

@@ -9,7 +9,8 @@ use Rattle.graph.specs.Graph.{Edge, Graph, covers}
 use Rattle.query.specs.Query.{Query, VertexSet, edgeAt, between}
 use Rattle.plan.specs.Plan.{Operator, scan, extend, ends, plus}
 
--- Of the numbers below n the best one, and of equally good ones the lowest: each is taken where it is better than the one taken before.
+-- Of the numbers below n the best one, and of equally good ones the lowest: each is taken where it is better
+-- than the one taken before.
 unfoldable pub chosen : (ℕ → ℕ → Bool) → ℕ → ℕ
 chosen better zero = 0
 chosen better (suc n) = cond (better n (chosen better n)) n (chosen better n)
@@ -25,7 +26,8 @@ scanSize g q i = edgesOf g (edgeAt q i .label)
 unfoldable pub scanEdge : Graph → Query → ℕ
 scanEdge g q = chosen (λ (i j : ℕ). ltb (scanSize g q i) (scanSize g q j)) (length (q .edges))
 
--- How many query edges, 'in either direction', join an uncovered vertex 'to the covered ones'; a covered one counts as having none.
+-- How many query edges, 'in either direction', join an uncovered vertex 'to the covered ones'; a covered one
+-- counts as having none.
 unfoldable pub degree : Query → VertexSet → ℕ → ℕ
 degree q S v = cond (S v) 0 (countIf (between v S) (q .edges))
 
@@ -64,4 +66,5 @@ pub record MostThenLowest (f : ℕ → ℕ) (n k : ℕ) : Type 0 where
 -- The scan and each extend are those that the rules name.
 pub record Choices (g : Graph) (q : Query) : Type 0 where
   pub scan-edge : 0 < length (q .edges) → LeastThenLowest (scanSize g q) (length (q .edges)) (scanEdge g q)
-  pub next-vertex : (S : VertexSet) → 0 < q .vertices → MostThenLowest (degree q S) (q .vertices) (nextVertex q S)
+  pub next-vertex : (S : VertexSet) → 0 < q .vertices → MostThenLowest (degree q S) (q .vertices)
+      (nextVertex q S)

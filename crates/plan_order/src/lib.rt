@@ -1,4 +1,5 @@
-// The ordering: the scan's edge by the data edges of each label, then one vertex after the other by its query edges to the covered ones.
+// The ordering: the scan's edge by the data edges of each label, then one vertex after the other by its query
+// edges to the covered ones.
 use graph::Graph;
 use query::Edge;
 use query::Query;
@@ -44,7 +45,8 @@ pub fn edge_counts(store: &[u32]) -> [u32; Graph::EDGE_LABELS]
 // The query edge whose label has the fewest data edges, the first of them.
 pub fn scan_edge(q: Query, counts: &[u32; Graph::EDGE_LABELS]) -> usize
     requires { ⌜ Drawable q ⌝ }
-    ensures { λ r. ⌜ r ≡ chosen (λ (i j : ℕ). ltb (getD (now (counts .entry)) (edgeAt (queryIn q) i .label) 0) (getD (now (counts .entry)) (edgeAt (queryIn q) j .label) 0)) (q .edges) ⌝ }
+    ensures { λ r. ⌜ r ≡ chosen (λ (i j : ℕ). ltb (getD (now (counts .entry)) (edgeAt (queryIn q) i .label) 0)
+        (getD (now (counts .entry)) (edgeAt (queryIn q) j .label) 0)) (q .edges) ⌝ }
 {
     let mut best = 0;
     let mut fewest = counts[q.edge(0).label as usize];

@@ -13,14 +13,17 @@ use Rattle.plan_spectrum.specs.Orders.{orderings, planOf, accepted, draw
 use Rattle.plan_spectrum.specs.Spectrum.{maxSpectrum, costOf, costWords}
 
 pub record EveryOrdering (g : Graph) (query : List ℕ) : Type 0 where
-  -- 'Every accepted plan of one scan and extends, each once': any numbers stand in the list once where their plan is accepted, else never.
-  pub each-once : (o : List ℕ) → countIf (same o) (orderings (queryOf query)) ≡ bit (accepted (queryOf query) (planOf o))
+  -- 'Every accepted plan of one scan and extends, each once': any numbers stand in the list once where their
+  -- plan is accepted, else never.
+  pub each-once : (o : List ℕ) → countIf (same o) (orderings (queryOf query))
+      ≡ bit (accepted (queryOf query) (planOf o))
   -- 'Ordered by scan index and then by extended vertices in turn.'
   pub in-order : inOrder (orderings (queryOf query)) ≡ true
   -- At most 144 for a query of at most 5 vertices.
   pub few : queryOf query .vertices ≤ maxSpectrum → length (orderings (queryOf query)) ≤ 144
   -- 'Its cost with cache on, high word first.'
-  pub cost-read : (o : List ℕ) → getD (costWords (costOf g (queryOf query) o)) 0 0 * 4294967296 + getD (costWords (costOf g (queryOf query) o)) 1 0
+  pub cost-read : (o : List ℕ) → getD (costWords (costOf g (queryOf query) o)) 0 0 * 4294967296 + getD
+      (costWords (costOf g (queryOf query) o)) 1 0
       ≡ planCost true g (queryOf query) (planOf o)
   -- The drawn plan is among them.
   pub drawn : any (same (drawnOrdering g (queryOf query))) (orderings (queryOf query)) ≡ true

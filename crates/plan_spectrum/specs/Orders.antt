@@ -1,5 +1,6 @@
--- The orderings of a query: 'every accepted plan of one scan and extends, each once, ordered by scan index and then by extended vertices in turn'. An
--- ordering is the list of its numbers: the scan's index, then the vertices in turn. Assumes nothing.
+-- The orderings of a query: 'every accepted plan of one scan and extends, each once, ordered by scan index
+-- and then by extended vertices in turn'. An ordering is the list of its numbers: the scan's index, then the
+-- vertices in turn. Assumes nothing.
 use mathlib.Core.Bool.{Bool, true, false, _&&_, _||_}
 use mathlib.Core.List.{List, [], _∷_, map, flatMap}
 use Prim.Native.Nat.{ℕ, zero, suc, _-_}
@@ -20,7 +21,8 @@ extends q S v = eqb (ruleFault q (extend v) (S ∷ [])) 0
 abbrev pub before : ℕ → List (List ℕ) → List (List ℕ)
 before x rows = map (λ (row : List ℕ). x ∷ row) rows
 
--- The vertices of extends in turn, where S is covered and k vertices are not: each that may be next, ascending, before what can follow it.
+-- The vertices of extends in turn, where S is covered and k vertices are not: each that may be next,
+-- ascending, before what can follow it.
 unfoldable pub ordersFrom : Query → VertexSet → ℕ → List (List ℕ)
 ordersFrom q S zero = [] ∷ []
 ordersFrom q S (suc k) =
@@ -28,7 +30,8 @@ ordersFrom q S (suc k) =
 
 -- 'Ordered by scan index': a scan covers two of the n vertices.
 unfoldable pub orderings : Query → List (List ℕ)
-orderings q = flatMap (λ (i : ℕ). before i (ordersFrom q (ends (edgeAt q i)) (q .vertices - 2))) (range (length (q .edges)))
+orderings q = flatMap (λ (i : ℕ). before i (ordersFrom q (ends (edgeAt q i)) (q .vertices - 2)))
+    (range (length (q .edges)))
 
 -- The plan of an ordering.
 unfoldable pub planOf : List ℕ → List Operator

@@ -1,5 +1,5 @@
--- What all orderings of a small pattern answers, and what it leaves in the word list, for every store, query file, scratch and words; its scratch
--- 'ends as after Run' (`runScratch`). Assumes nothing.
+-- What all orderings of a small pattern answers, and what it leaves in the word list, for every store, query
+-- file, scratch and words; its scratch 'ends as after Run' (`runScratch`). Assumes nothing.
 use mathlib.Core.Bool.{Bool, true, cond}
 use mathlib.Core.List.{List, [], _∷_, _++_, map, flatMap}
 use Prim.Native.Nat.{ℕ, suc, _+_, _*_, _/_, _%_}
@@ -40,7 +40,8 @@ limitFault g q scratch o =
     ∷ refuse 30 (planPasses true g q (planOf o))
     ∷ [])
 
--- 'It refuses, after the query, with 31 more than 5 vertices; then 19; with 32 a word list too short; then 20 or 30 of the first ordering refused.'
+-- 'It refuses, after the query, with 31 more than 5 vertices; then 19; with 32 a word list too short; then 20
+-- or 30 of the first ordering refused.'
 unfoldable pub orderingsFault : List ℕ → List ℕ → ℕ → ℕ → ℕ
 orderingsFault store query scratch words =
     let g = graphIn store in

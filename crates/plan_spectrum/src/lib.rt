@@ -1,5 +1,6 @@
-// All orderings of a small pattern: every accepted plan of one scan and extends, with its cost. They are listed first; then each is run once, its rows
-// counted and not written; and when none is refused, the entries are written.
+// All orderings of a small pattern: every accepted plan of one scan and extends, with its cost. They are
+// listed first; then each is run once, its rows counted and not written; and when none is refused, the
+// entries are written.
 mod listing;
 mod writing;
 
@@ -49,7 +50,8 @@ impl OrderingsAnswer {
 // The plan of an ordering: its scan, then its extends.
 fn plan_at(list: &[u32], at: usize, width: usize) -> Plan
     requires { ⌜ (at + width ≤ length (now list)) × (width ≤ maxOperators) ⌝ }
-    ensures { λ r. ⌜ (r .operators ≡ width) × (operatorsIn r ≡ planOf (take width (drop at (now (list .entry))))) ⌝ }
+    ensures { λ r. ⌜ (r .operators ≡ width) × (operatorsIn r
+        ≡ planOf (take width (drop at (now (list .entry))))) ⌝ }
 {
     let mut kinds = [Plan::EXTEND; Plan::MAX_OPERATORS];
     kinds[0] = Plan::SCAN;
@@ -68,7 +70,8 @@ fn run_orderings(
     costs: &mut [u64],
 ) -> u32
     requires { ⌜ Lie (now store) q (now list) plans (now work) (now costs) ⌝ }
-    ensures { λ r. ⌜ AllRun (graphIn (now (store .entry))) (queryIn q) (length (now (work .entry))) (now (costs .exit)) r ⌝ }
+    ensures { λ r. ⌜ AllRun (graphIn (now (store .entry))) (queryIn q) (length (now (work .entry)))
+        (now (costs .exit)) r ⌝ }
 {
     let width = q.vertices - 1;
     let mut k = 0;
@@ -87,7 +90,8 @@ fn run_orderings(
 // All orderings of a query that was read over an accepted store: 32, 20, 30, or the entries.
 fn write_orderings(store: &[u32], q: Query, work: &mut [u32], words: &mut [u32]) -> OrderingsAnswer
     requires { ⌜ Small q × (storeFault (now store) ≡ 0) × (length (now work) ≤ maxWords) ⌝ }
-    ensures { λ r. ⌜ Settled (graphIn (now (store .entry))) (queryIn q) (length (now (work .entry))) (now (words .entry)) (now (words .exit)) r ⌝ }
+    ensures { λ r. ⌜ Settled (graphIn (now (store .entry))) (queryIn q) (length (now (work .entry)))
+        (now (words .entry)) (now (words .exit)) r ⌝ }
 {
     let mut list = [0u32; OrderingsAnswer::MAX_NUMBERS];
     let plans = listing::list_orderings(q, &mut list);
@@ -111,8 +115,10 @@ fn orderings_counted(
     words: &mut [u32],
 ) -> OrderingsAnswer
     requires { ⌜ length (now work) ≤ maxWords ⌝ }
-    ensures { λ r. ⌜ (r ≡ orderingsAnswer (now (store .entry)) (now (query .entry)) (length (now (work .entry))) (length (now (words .entry))))
-        × (now (words .exit) ≡ orderingsWords (now (store .entry)) (now (query .entry)) (length (now (work .entry))) (now (words .entry))) ⌝ }
+    ensures { λ r. ⌜ (r ≡ orderingsAnswer (now (store .entry)) (now (query .entry))
+        (length (now (work .entry))) (length (now (words .entry))))
+        × (now (words .exit) ≡ orderingsWords (now (store .entry)) (now (query .entry))
+        (length (now (work .entry))) (now (words .entry))) ⌝ }
 {
     let fault = query_file::query_fault(query);
     if fault != 0 {
@@ -136,8 +142,10 @@ pub fn orderings(
     scratch: &mut [u32],
     words: &mut [u32],
 ) -> OrderingsAnswer
-    ensures answer { λ r. ⌜ r ≡ orderingsAnswer (now (store .entry)) (now (query .entry)) (length (now (scratch .entry))) (length (now (words .entry))) ⌝ }
-    ensures listed { λ _. ⌜ now (words .exit) ≡ orderingsWords (now (store .entry)) (now (query .entry)) (length (now (scratch .entry))) (now (words .entry)) ⌝ }
+    ensures answer { λ r. ⌜ r ≡ orderingsAnswer (now (store .entry)) (now (query .entry))
+        (length (now (scratch .entry))) (length (now (words .entry))) ⌝ }
+    ensures listed { λ _. ⌜ now (words .exit) ≡ orderingsWords (now (store .entry)) (now (query .entry))
+        (length (now (scratch .entry))) (now (words .entry)) ⌝ }
     ensures cleared { λ _. ⌜ now (scratch .exit) ≡ runScratch (now (scratch .entry)) ⌝ }
     ensures every { λ _. ⌜ EveryOrderingListed (graphIn (now (store .entry))) (now (query .entry)) ⌝ }
 {

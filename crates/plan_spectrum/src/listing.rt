@@ -1,4 +1,5 @@
-// The orderings of a query, in order: by recursion on the number of uncovered vertices, which falls by one at each extend.
+// The orderings of a query, in order: by recursion on the number of uncovered vertices, which falls by one at
+// each extend.
 use plan::ends;
 use query::Query;
 use query::set;
@@ -23,10 +24,12 @@ fn may_extend(q: Query, set: u32, v: usize) -> bool
     q.adjacent(v) & set != 0
 }
 
-// Lists the orders of the vertices that a set lacks, of which so many are left, each after the first `at` numbers of a row.
+// Lists the orders of the vertices that a set lacks, of which so many are left, each after the first `at`
+// numbers of a row.
 fn put_orders(q: Query, set: u32, left: usize, row: [u32; 4], at: usize, out: &mut [u32]) -> usize
     requires { ⌜ Lists q set left row at (now out) ⌝ }
-    ensures { λ r. ⌜ Listed (take at row) (ordersFrom (queryIn q) (inMask set) left) (now (out .entry)) (now (out .exit)) r ⌝ }
+    ensures { λ r. ⌜ Listed (take at row) (ordersFrom (queryIn q) (inMask set) left) (now (out .entry))
+        (now (out .exit)) r ⌝ }
 {
     if left == 0 {
         copy(&row, at, out);

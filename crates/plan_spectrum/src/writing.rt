@@ -19,7 +19,8 @@ fn put_cost(cost: u64, out: &mut [u32])
 // Writes an entry whose ordering begins a list.
 fn put_entry(list: &[u32], width: usize, cost: u64, out: &mut [u32])
     requires { ⌜ (width ≤ length (now list)) × (width + 2 ≤ length (now out)) ⌝ }
-    ensures { λ _. ⌜ Put (take width (now (list .entry)) ++ costWords cost) (now (out .entry)) (now (out .exit)) ⌝ }
+    ensures { λ _. ⌜ Put (take width (now (list .entry)) ++ costWords cost) (now (out .entry))
+        (now (out .exit)) ⌝ }
 {
     copy(list, width, out);
     put_cost(cost, &mut out[width..]);
@@ -27,8 +28,10 @@ fn put_entry(list: &[u32], width: usize, cost: u64, out: &mut [u32])
 
 // Writes the entries of so many orderings that lie in a list, each of so many numbers.
 pub fn write_entries(width: usize, plans: usize, list: &[u32], costs: &[u64], out: &mut [u32])
-    requires { ⌜ (plans * width ≤ length (now list)) × (plans ≤ length (now costs)) × (plans * (width + 2) ≤ length (now out)) × (width ≤ 4) ⌝ }
-    ensures { λ _. ⌜ Put (entriesIn width plans (now (list .entry)) (now (costs .entry))) (now (out .entry)) (now (out .exit)) ⌝ }
+    requires { ⌜ (plans * width ≤ length (now list)) × (plans ≤ length (now costs))
+        × (plans * (width + 2) ≤ length (now out)) × (width ≤ 4) ⌝ }
+    ensures { λ _. ⌜ Put (entriesIn width plans (now (list .entry)) (now (costs .entry))) (now (out .entry))
+        (now (out .exit)) ⌝ }
 {
     let each = width + 2;
     let mut k = 0;

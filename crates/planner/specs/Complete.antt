@@ -1,5 +1,5 @@
--- What is claimed of a drawn plan: 'what it writes passes the plan check, so its lists are as complete as a hand-drawn plan's'.
--- Assumes nothing.
+-- What is claimed of a drawn plan: 'what it writes passes the plan check, so its lists are as complete as a
+-- hand-drawn plan's'. Assumes nothing.
 use mathlib.Core.Path.{_≡_}
 use mathlib.Core.Bool.{Bool}
 use mathlib.Core.List.{List}
@@ -23,14 +23,17 @@ planIn r bytes = take (r .bytes) bytes
 -- 'What it writes passes the plan check', and holds the drawn operators.
 pub record PassesCheck (store query : List ℕ) (r : DrawAnswer) (bytes : List ℕ) : Type 0 where
   pub passes : r .refusal ≡ 0 → checkFault query (planIn r bytes) ≡ 0
-  pub operators : r .refusal ≡ 0 → operatorsOf (planIn r bytes) ≡ drawnOperators (graphIn store) (queryOf query)
+  pub operators : r .refusal ≡ 0 → operatorsOf (planIn r bytes)
+      ≡ drawnOperators (graphIn store) (queryOf query)
 
--- 'So its lists are as complete as a hand-drawn plan's': a run of the drawn bytes over the graph's store, from a query alone to the
--- complete list.
+-- 'So its lists are as complete as a hand-drawn plan's': a run of the drawn bytes over the graph's store,
+-- from a query alone to the complete list.
 abbrev pub DrawnListsEveryMatch : Bool → List ℕ → List ℕ → List ℕ → ℕ → List ℕ → List Record → Type 0
 DrawnListsEveryMatch cache store query bytes scratch list records =
     let plan = planIn (drawAnswer store query (length bytes)) (drawBytes store query bytes) in
     (file : List ℕ) → LoadsTo file store → drawFault store query (length bytes) ≡ 0
-    → CompleteRun cache (graphOf file) (queryOf query) (drawnOperators (graphOf file) (queryOf query)) scratch list
-    (runList cache store query plan scratch list (length records)) records (runRecords cache store query plan scratch (length list) records)
+    → CompleteRun cache (graphOf file) (queryOf query) (drawnOperators (graphOf file) (queryOf query)) scratch
+    list
+    (runList cache store query plan scratch list (length records)) records
+    (runRecords cache store query plan scratch (length list) records)
     (runAnswer cache store query plan scratch (length list) (length records))

@@ -1,5 +1,5 @@
-// Drawing a plan: from a store and a query to a packed plan of one scan and n - 2 extends. `specs/` says which plan it is and when it is
-// refused, `proofs/` that it passes the plan check.
+// Drawing a plan: from a store and a query to a packed plan of one scan and n - 2 extends. `specs/` says
+// which plan it is and when it is refused, `proofs/` that it passes the plan check.
 mod pack;
 
 use query::Query;
@@ -29,7 +29,8 @@ impl DrawAnswer {
 // Draws the plan of a query that was read over an accepted store: 24, or the plan.
 fn draw_accepted(store: &[u32], q: Query, plan: &mut [u8]) -> DrawAnswer
     requires { ⌜ Drawable q × (storeFault (now store) ≡ 0) ⌝ }
-    ensures { λ r. ⌜ Drawn (graphIn (now (store .entry))) (queryIn q) (now (plan .entry)) (now (plan .exit)) r ⌝ }
+    ensures { λ r. ⌜ Drawn (graphIn (now (store .entry))) (queryIn q) (now (plan .entry)) (now (plan .exit))
+        r ⌝ }
 {
     let edge = plan_order::scan_edge(q, &plan_order::edge_counts(store));
     let bytes = pack::plan_bytes(q.vertices);
@@ -42,8 +43,10 @@ fn draw_accepted(store: &[u32], q: Query, plan: &mut [u8]) -> DrawAnswer
 
 // Draws a plan.
 pub fn draw_plan(store: &[u32], query: &[u8], plan: &mut [u8]) -> DrawAnswer
-    ensures answer { λ r. ⌜ r ≡ drawAnswer (now (store .entry)) (now (query .entry)) (length (now (plan .entry))) ⌝ }
-    ensures bytes { λ _. ⌜ now (plan .exit) ≡ drawBytes (now (store .entry)) (now (query .entry)) (now (plan .entry)) ⌝ }
+    ensures answer { λ r. ⌜ r ≡ drawAnswer (now (store .entry)) (now (query .entry))
+        (length (now (plan .entry))) ⌝ }
+    ensures bytes { λ _. ⌜ now (plan .exit) ≡ drawBytes (now (store .entry)) (now (query .entry))
+        (now (plan .entry)) ⌝ }
     ensures checked { λ r. ⌜ PassesCheck (now (store .entry)) (now (query .entry)) r (now (plan .exit)) ⌝ }
 {
     let fault = query_file::query_fault(query);

@@ -1,4 +1,5 @@
-// The drawn plan's file: the operator count (5 bits), the scan's kind (2) and edge (5), then each extend's kind (2) and vertex (3).
+// The drawn plan's file: the operator count (5 bits), the scan's kind (2) and edge (5), then each extend's
+// kind (2) and vertex (3).
 use packed::put_field;
 use plan::Plan;
 use plan_order::next_vertex;
@@ -53,7 +54,8 @@ fn put_scan(plan: &mut [u8], operators: usize, edge: usize)
 // Writes an extend at a position.
 fn put_extend(plan: &mut [u8], at: usize, v: usize)
     requires { ⌜ (at < 64) × (at + 5 ≤ 8 * length (now plan)) × (v < 2 ^ 3) ⌝ }
-    ensures { λ _. ⌜ ((old bits : List ℕ) → now (plan .entry) ≡ written old bits → length bits ≡ at → now (plan .exit) ≡ written old (bits ++ extendBits v)) ⌝ }
+    ensures { λ _. ⌜ ((old bits : List ℕ) → now (plan .entry) ≡ written old bits → length bits ≡ at
+        → now (plan .exit) ≡ written old (bits ++ extendBits v)) ⌝ }
 {
     put_field(plan, at, 2, Plan::EXTEND);
     put_field(plan, at + 2, 3, v as u32);
@@ -63,7 +65,8 @@ fn put_extend(plan: &mut [u8], at: usize, v: usize)
 fn put_extends(q: Query, set: u32, plan: &mut [u8])
     requires { ⌜ Drawable q × (12 + 5 * (q .vertices - 2) ≤ 8 * length (now plan)) ⌝ }
     ensures { λ _. ⌜ ((old bits : List ℕ) → now (plan .entry) ≡ written old bits → length bits ≡ 12
-        → now (plan .exit) ≡ written old (bits ++ flatMap extendBits (extendsFrom (queryIn q) (inMask set) (q .vertices - 2)))) ⌝ }
+        → now (plan .exit) ≡ written old (bits ++ flatMap extendBits
+        (extendsFrom (queryIn q) (inMask set) (q .vertices - 2)))) ⌝ }
 {
     let extends = q.vertices - 2;
     let mut covered = set;
@@ -80,8 +83,10 @@ fn put_extends(q: Query, set: u32, plan: &mut [u8])
 
 // Writes the whole plan and the zero bits that fill its last byte.
 pub fn put_plan(q: Query, edge: usize, plan: &mut [u8])
-    requires { ⌜ Drawable q × (edge < q .edges) × (bytesFor (12 + 5 * (q .vertices - 2)) ≤ length (now plan)) ⌝ }
-    ensures { λ _. ⌜ now (plan .exit) ≡ bytesOf (planBits edge (extendsFrom (queryIn q) (ends (edgeAt (queryIn q) edge)) (q .vertices - 2)))
+    requires { ⌜ Drawable q × (edge < q .edges) × (bytesFor (12 + 5 * (q .vertices - 2))
+        ≤ length (now plan)) ⌝ }
+    ensures { λ _. ⌜ now (plan .exit) ≡ bytesOf (planBits edge
+        (extendsFrom (queryIn q) (ends (edgeAt (queryIn q) edge)) (q .vertices - 2)))
         ++ drop (bytesFor (12 + 5 * (q .vertices - 2))) (now (plan .entry)) ⌝ }
 {
     put_scan(plan, q.vertices - 1, edge);

@@ -11,7 +11,8 @@ pub record Beside (q : Query) (S : VertexSet) : Type 0 where
   pub outside : S vertex ≡ false
   pub joined : touches q vertex S ≡ true
 
--- 'While a vertex is uncovered, some uncovered vertex touches the covered ones': where the query is connected, any set that has one of its
--- vertices and lacks another.
+-- 'While a vertex is uncovered, some uncovered vertex touches the covered ones': where the query is
+-- connected, any set that has one of its vertices and lacks another.
 abbrev pub SomeBeside : Query → VertexSet → Type 0
-SomeBeside q S = connected q ≡ true → (a b : ℕ) → a < q .vertices → b < q .vertices → S a ≡ true → S b ≡ false → Beside q S
+SomeBeside q S =
+    connected q ≡ true → (a b : ℕ) → a < q .vertices → b < q .vertices → S a ≡ true → S b ≡ false → Beside q S

@@ -1,6 +1,7 @@
--- The query file: 'n vertices (4 bits, 2 to 8), m edges (5 bits, 1 to 24), n vertex labels (16)', each 'followed by a first and a last
--- day (16 bits each)', 'then m edges of from (3), to (3), label (8), ascending strictly', and at its end 'a pair count (4 bits) and pairs of vertices
--- (3 bits each)'; and the faults for which Read query refuses one. Assumes nothing.
+-- The query file: 'n vertices (4 bits, 2 to 8), m edges (5 bits, 1 to 24), n vertex labels (16)', each
+-- 'followed by a first and a last day (16 bits each)', 'then m edges of from (3), to (3), label (8),
+-- ascending strictly', and at its end 'a pair count (4 bits) and pairs of vertices (3 bits each)'; and the
+-- faults for which Read query refuses one. Assumes nothing.
 use mathlib.Core.Bool.{Bool, true, not, _&&_, _||_}
 use mathlib.Core.List.{List, [], _∷_, _++_, map}
 use Prim.Native.Nat.{ℕ, zero, suc, _+_, _*_}
@@ -129,9 +130,9 @@ pairAscends s (suc i) = ltb (pairKey (pairIn s i)) (pairKey (pairIn s (suc i)))
 abbrev pub pairFault : List ℕ → ℕ → ℕ
 pairFault s i = refuse 26 (badPair (vertexCount s) (pairIn s i) || not (pairAscends s i))
 
--- '6 under 2 bytes; 8 n or m outside its limits; 6 shorter than its own size', also where it 'ends before its pair count or pairs do'; '7
--- longer, or a fill bit set'; 25 'after the lengths and before the edges'; 'then by edge, 9 .., 10 ..'; 26 'after all edges and before 11';
--- '11 not connected.'
+-- '6 under 2 bytes; 8 n or m outside its limits; 6 shorter than its own size', also where it 'ends before its
+-- pair count or pairs do'; '7 longer, or a fill bit set'; 25 'after the lengths and before the edges'; 'then
+-- by edge, 9 .., 10 ..'; 26 'after all edges and before 11'; '11 not connected.'
 unfoldable pub queryFault : List ℕ → ℕ
 queryFault s =
     first

@@ -1,5 +1,5 @@
-// The query: a small labelled graph whose vertices are to be matched. `specs/` says what a query file holds and when it is
-// refused, `proofs/` has the laws; `query_file` reads one.
+// The query: a small labelled graph whose vertices are to be matched. `specs/` says what a query file holds
+// and when it is refused, `proofs/` has the laws; `query_file` reads one.
 use graph::Graph;
 ghost use mathlib.Core.Path.{_≡_};
 ghost use mathlib.Core.Bool.{not, _&&_};
@@ -21,7 +21,8 @@ pub struct Edge {
     pub label: u32,
 }
 
-// What a query vertex asks of a data vertex: a label, 0 for any, and a day from a first to a last; any_day where the range is the whole.
+// What a query vertex asks of a data vertex: a label, 0 for any, and a day from a first to a last; any_day
+// where the range is the whole.
 pub struct Filter {
     pub label: u32,
     pub first: u32,
@@ -29,8 +30,8 @@ pub struct Filter {
     pub any_day: bool,
 }
 
-// n vertices with a label, a first and a last day each, m edges, and pairs of vertices of which the low one's data vertex is to be below
-// the high one's, field by field; every number past the last of them is 0.
+// n vertices with a label, a first and a last day each, m edges, and pairs of vertices of which the low one's
+// data vertex is to be below the high one's, field by field; every number past the last of them is 0.
 pub struct Query {
     pub vertices: usize,
     pub edges: usize,

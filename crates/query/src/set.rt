@@ -1,4 +1,5 @@
-// Sets of query vertices as masks: vertex w is in the set where the bit of 2^w is 1. A union is `|`, an intersection `&`.
+// Sets of query vertices as masks: vertex w is in the set where the bit of 2^w is 1. A union is `|`, an
+// intersection `&`.
 ghost use mathlib.Core.Path.{_≡_};
 ghost use mathlib.Core.Bool.{not, _&&_};
 ghost use Prim.Native.Nat.{ℕ, _<_};

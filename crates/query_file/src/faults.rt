@@ -11,8 +11,11 @@ use query::Query;
 ghost use mathlib.Core.Path.{_≡_};
 ghost use Prim.Native.Nat.{_+_, _*_, _^_, _≤_, _<_};
 ghost use Rattle.packed.specs.Field.{bitsIn};
-ghost use Rattle.query.specs.File.{maxVertices, maxEdges, vertexCount, edgeCount, pairCount, vertexStart, edgeStart, pairStart, key, pairKey};
-ghost use Rattle.query_file.specs.inner.Parts.{limitsFault, sizeFault, sizesFault, edgeFrom, pairFrom, keyFault, pairKeyFault, queryDaysFault, queryEdgesFault, queryPairsFault, queryFileFault};
+ghost use Rattle.query.specs.File.{maxVertices, maxEdges, vertexCount, edgeCount, pairCount, vertexStart};
+ghost use Rattle.query.specs.File.{edgeStart, pairStart, key, pairKey};
+ghost use Rattle.query_file.specs.inner.Parts.{limitsFault, sizeFault, sizesFault, edgeFrom, pairFrom};
+ghost use Rattle.query_file.specs.inner.Parts.{keyFault, pairKeyFault, queryDaysFault, queryEdgesFault};
+ghost use Rattle.query_file.specs.inner.Parts.{queryPairsFault, queryFileFault};
 
 // 8 where n or m is outside its limits, else 0.
 fn limits_fault(n: usize, m: usize) -> u32
@@ -53,7 +56,8 @@ fn size_fault(file: &[u8], bits: usize) -> u32
 
 // 6 where the file ends before its pair count does; then the faults of its size.
 fn sizes_fault(file: &[u8], n: usize, m: usize) -> u32
-    requires { ⌜ (n ≡ vertexCount (now file)) × (m ≡ edgeCount (now file)) × (n ≤ maxVertices) × (m ≤ maxEdges) ⌝ }
+    requires { ⌜ (n ≡ vertexCount (now file)) × (m ≡ edgeCount (now file)) × (n ≤ maxVertices)
+        × (m ≤ maxEdges) ⌝ }
     ensures { λ r. ⌜ r ≡ sizesFault (now (file .entry)) ⌝ }
 {
     if file.len() < bytes_for(pair_start(n, m, 0)) {
@@ -88,8 +92,8 @@ fn edge_key(file: &[u8], at: usize) -> u32
     field(file, at, 14)
 }
 
-// 9 where the edge at a bit position has a vertex not below n or equal ends; 10 where its key is below the least that
-// ascends; else 0.
+// 9 where the edge at a bit position has a vertex not below n or equal ends; 10 where its key is below the
+// least that ascends; else 0.
 fn edge_fault(file: &[u8], at: usize, n: usize, least: u32) -> u32
     requires { ⌜ (at + 14 ≤ bitsIn (now file)) × (at + 14 < 2 ^ 64) ⌝ }
     ensures { λ r. ⌜ r ≡ keyFault n least (edgeFrom (now (file .entry)) at) ⌝ }
@@ -113,7 +117,8 @@ fn edge_fault(file: &[u8], at: usize, n: usize, least: u32) -> u32
 
 // 9 or 10 of the first edge at fault, else 0. `least` is one more than the last edge's key.
 fn edges_fault(file: &[u8], n: usize, m: usize) -> u32
-    requires { ⌜ (n ≡ vertexCount (now file)) × (n ≤ maxVertices) × (m ≤ maxEdges) × (edgeStart (now file) m ≤ bitsIn (now file)) ⌝ }
+    requires { ⌜ (n ≡ vertexCount (now file)) × (n ≤ maxVertices) × (m ≤ maxEdges)
+        × (edgeStart (now file) m ≤ bitsIn (now file)) ⌝ }
     ensures { λ r. ⌜ r ≡ queryEdgesFault (now (file .entry)) m ⌝ }
 {
     let mut least = 0;
@@ -138,7 +143,8 @@ fn pair_key(file: &[u8], at: usize) -> u32
     field(file, at, 6)
 }
 
-// 26 where the pair at a bit position has a vertex not below n, equal vertices or a key below the least that ascends; else 0.
+// 26 where the pair at a bit position has a vertex not below n, equal vertices or a key below the least that
+// ascends; else 0.
 fn pair_fault(file: &[u8], at: usize, n: usize, least: u32) -> u32
     requires { ⌜ (at + 6 ≤ bitsIn (now file)) × (at + 6 < 2 ^ 64) ⌝ }
     ensures { λ r. ⌜ r ≡ pairKeyFault n least (pairFrom (now (file .entry)) at) ⌝ }
@@ -162,7 +168,8 @@ fn pair_fault(file: &[u8], at: usize, n: usize, least: u32) -> u32
 
 // 26 of the first pair at fault, else 0. `least` is one more than the last pair's key.
 fn pairs_fault(file: &[u8], n: usize, m: usize) -> u32
-    requires { ⌜ (n ≡ vertexCount (now file)) × (m ≡ edgeCount (now file)) × (n ≤ maxVertices) × (m ≤ maxEdges) × (pairStart (now file) (pairCount (now file)) ≤ bitsIn (now file)) ⌝ }
+    requires { ⌜ (n ≡ vertexCount (now file)) × (m ≡ edgeCount (now file)) × (n ≤ maxVertices)
+        × (m ≤ maxEdges) × (pairStart (now file) (pairCount (now file)) ≤ bitsIn (now file)) ⌝ }
     ensures { λ r. ⌜ r ≡ queryPairsFault (now (file .entry)) (pairCount (now (file .entry))) ⌝ }
 {
     let k = pair_count(file, n, m);

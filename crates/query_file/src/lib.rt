@@ -1,5 +1,5 @@
-// The query file: n (4 bits), m (5), n vertices of label (16), first day (16), last day (16), then m edges of from (3), to (3), label (8),
-// then a pair count (4) and pairs of low (3), high (3); and Read query.
+// The query file: n (4 bits), m (5), n vertices of label (16), first day (16), last day (16), then m edges of
+// from (3), to (3), label (8), then a pair count (4) and pairs of low (3), high (3); and Read query.
 use packed::field;
 use query::Query;
 use query::ReadQuery;
@@ -9,7 +9,8 @@ ghost use Prim.Native.Nat.{_+_, _*_, _^_, _≤_, _<_};
 ghost use lib.ListN.{length};
 ghost use Rattle.lists.specs.Lists.{range};
 ghost use Rattle.packed.specs.Field.{bitsIn};
-ghost use Rattle.query.specs.File.{maxVertices, maxEdges, maxPairs, vertexCount, edgeCount, pairCount, vertexStart, pairStart, queryOf, queryFault};
+ghost use Rattle.query.specs.File.{maxVertices, maxEdges, maxPairs, vertexCount, edgeCount, pairCount};
+ghost use Rattle.query.specs.File.{vertexStart, pairStart, queryOf, queryFault};
 ghost use Rattle.query_file.specs.inner.Parts.{vertexField, edgeField, pairField, Readable};
 ghost use Rattle.query.specs.Answer.{padded, structOf, readAnswer};
 
@@ -47,7 +48,8 @@ fn pair_start(n: usize, m: usize, i: usize) -> usize
 
 // How many pairs follow the edges.
 fn pair_count(file: &[u8], n: usize, m: usize) -> usize
-    requires { ⌜ (n ≡ vertexCount (now file)) × (m ≡ edgeCount (now file)) × (n ≤ maxVertices) × (m ≤ maxEdges) × (pairStart (now file) 0 ≤ bitsIn (now file)) ⌝ }
+    requires { ⌜ (n ≡ vertexCount (now file)) × (m ≡ edgeCount (now file)) × (n ≤ maxVertices)
+        × (m ≤ maxEdges) × (pairStart (now file) 0 ≤ bitsIn (now file)) ⌝ }
     ensures { λ r. ⌜ r ≡ pairCount (now (file .entry)) ⌝ }
 {
     field(file, edge_start(n, m), 4) as usize
@@ -67,7 +69,8 @@ fn vertex_fields(file: &[u8], n: usize, offset: usize) -> [u32; Query::MAX_VERTI
     a
 }
 
-// One field of each of the m edges from bit position `at` on: `width` bits, `offset` bits past the edge's start; 0 past them.
+// One field of each of the m edges from bit position `at` on: `width` bits, `offset` bits past the edge's
+// start; 0 past them.
 fn edge_fields(
     file: &[u8],
     at: usize,
@@ -75,7 +78,8 @@ fn edge_fields(
     offset: usize,
     width: usize,
 ) -> [u32; Query::MAX_EDGES]
-    requires { ⌜ (offset + width ≤ 14) × (m ≤ maxEdges) × (at < 2 ^ 32) × (at + 14 * m ≤ bitsIn (now file)) ⌝ }
+    requires { ⌜ (offset + width ≤ 14) × (m ≤ maxEdges) × (at < 2 ^ 32)
+        × (at + 14 * m ≤ bitsIn (now file)) ⌝ }
     ensures { λ r. ⌜ r ≡ padded maxEdges (map (edgeField (now (file .entry)) at offset width) (range m)) ⌝ }
 {
     let mut a = [0u32; Query::MAX_EDGES];
@@ -87,7 +91,8 @@ fn edge_fields(
     a
 }
 
-// One field of each of the k pairs from bit position `at` on: 3 bits, `offset` bits past the pair's start; 0 past them.
+// One field of each of the k pairs from bit position `at` on: 3 bits, `offset` bits past the pair's start; 0
+// past them.
 fn pair_fields(file: &[u8], at: usize, k: usize, offset: usize) -> [u32; Query::MAX_PAIRS]
     requires { ⌜ (offset + 3 ≤ 6) × (k ≤ maxPairs) × (at < 2 ^ 32) × (at + 6 * k ≤ bitsIn (now file)) ⌝ }
     ensures { λ r. ⌜ r ≡ padded maxPairs (map (pairField (now (file .entry)) at offset) (range k)) ⌝ }

@@ -18,7 +18,13 @@ pub struct Recorded {
 impl Recorded {
     // A refused run has nothing to store.
     pub fn refused(refusal: u32) -> Self
-        ensures { λ r. ⌜ (r .answer ≡ record { refusal = refusal; rows = 0; cost = 0; build = 0; probe = 0 }) × (r .operators ≡ 0) ⌝ }
+        ensures { λ r. ⌜ (r .answer ≡ record {
+          refusal = refusal;
+          rows = 0;
+          cost = 0;
+          build = 0;
+          probe = 0;
+        }) × (r .operators ≡ 0) ⌝ }
     {
         let answer = RunAnswer::refused(refusal);
         Recorded {
@@ -39,8 +45,11 @@ impl Recorded {
 
 // Stores rows and cost of each operator into its record, and answers what the run does.
 pub fn store_records(recorded: Recorded, records: &mut [Record]) -> RunAnswer
-    requires { ⌜ (recorded .operators ≤ length (now records)) × (recorded .operators ≤ length (recorded .records)) × (recorded .operators ≤ maxOperators) ⌝ }
-    ensures { λ r. ⌜ (r ≡ recorded .answer) × (now (records .exit) ≡ take (recorded .operators) (recorded .records) ++ drop (recorded .operators) (now (records .entry))) ⌝ }
+    requires { ⌜ (recorded .operators ≤ length (now records))
+        × (recorded .operators ≤ length (recorded .records)) × (recorded .operators ≤ maxOperators) ⌝ }
+    ensures { λ r. ⌜ (r ≡ recorded .answer) × (now (records .exit)
+        ≡ take (recorded .operators) (recorded .records) ++ drop (recorded .operators)
+        (now (records .entry))) ⌝ }
 {
     let mut i = 0;
     while i < recorded.operators {

@@ -64,7 +64,8 @@ pub record EveryRow (list : List ℕ) (n rows : ℕ) (bytes : List ℕ) : Type 0
   pub placed : (i : ℕ) → i < rows
       → numbersOn (pageBytes list n rows (i / 59 + 1) bytes) (i % 59 + 2) ≡ take n (drop (i * n) list)
   pub each-once :
-      flatMap (λ (k : ℕ). rowsRead (pageBytes list n rows (k + 1) bytes)) (range (pageCount rows)) ≡ rowsOf n rows list
+      flatMap (λ (k : ℕ). rowsRead (pageBytes list n rows (k + 1) bytes)) (range (pageCount rows))
+      ≡ rowsOf n rows list
 
 -- So it is of every list that 33 does not turn away, in bytes that hold a page.
 abbrev pub SheetsHoldEveryRow : List ℕ → ℕ → ℕ → List ℕ → Type 0

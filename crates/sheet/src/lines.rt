@@ -11,7 +11,8 @@ ghost use Rattle.sheet.specs.inner.Lines.{blanks, blankLines, Fitting};
 
 // Writes numbers over blanks, from the first column on.
 pub fn put_numbers(numbers: &[u32], text: &mut [u8])
-    requires { ⌜ (numberColumns * length (now numbers) ≤ length (now text)) × (now text ≡ blanks (length (now text)))
+    requires { ⌜ (numberColumns * length (now numbers) ≤ length (now text))
+        × (now text ≡ blanks (length (now text)))
         × Fitting (now numbers) ⌝ }
     ensures { λ _. ⌜ now (text .exit) ≡ flatMap field (now (numbers .entry))
         ++ blanks (length (now (text .entry)) - numberColumns * length (now (numbers .entry))) ⌝ }

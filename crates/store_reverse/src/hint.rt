@@ -16,9 +16,10 @@ fn wide(byte: u8) -> usize
     byte as usize
 }
 
-// 19 where the ascending list of a vertex lacks a word, else 0, by the vertex's hint of where the word stands: the place after the last word hinted, up to a
-// multiple of 256. Lists are walked by ascending vertex, so that of one label the next reverse in a list is the next word. A hint that
-// fails is left, if a word stands there: that may be of another label, and come later. Any hint will do.
+// 19 where the ascending list of a vertex lacks a word, else 0, by the vertex's hint of where the word
+// stands: the place after the last word hinted, up to a multiple of 256. Lists are walked by ascending
+// vertex, so that of one label the next reverse in a list is the next word. A hint that fails is left, if a
+// word stands there: that may be of another label, and come later. Any hint will do.
 pub fn hinted_fault(
     list: &[u32],
     x: u32,

@@ -1,6 +1,6 @@
-// Reverses where lists are short, as those of a rig are: all entries of a side in turn, with no loop for each list, whose end a processor
-// hints wrong more often than not. The vertex of an entry is one less than how many lists begin at it or before it, and that is
-// counted for a block of entries at a time.
+// Reverses where lists are short, as those of a rig are: all entries of a side in turn, with no loop for each
+// list, whose end a processor hints wrong more often than not. The vertex of an entry is one less than how
+// many lists begin at it or before it, and that is counted for a block of entries at a time.
 pub mod hint;
 
 use crate::hint::hinted_fault;
@@ -16,7 +16,8 @@ ghost use Rattle.counting_sort.specs.inner.Groups.{groupSizes};
 ghost use Rattle.adjacency.specs.inner.Side.{listOn};
 ghost use Rattle.adjacency.specs.inner.Portion.{member};
 ghost use Rattle.store_reverse.specs.inner.Check.{unless, reverse, GoodSide, sideReversed};
-ghost use Rattle.store_reverse.specs.inner.Begun.{blockEntries, begunIn, Begins, startIn, EntryFits, BlockFits, Flat, entriesReversed, Sides};
+ghost use Rattle.store_reverse.specs.inner.Begun.{blockEntries, begunIn, Begins, startIn, EntryFits};
+ghost use Rattle.store_reverse.specs.inner.Begun.{BlockFits, Flat, entriesReversed, Sides};
 
 const BLOCK: usize = 1024;
 
@@ -31,7 +32,8 @@ fn is_at(list: &[u32], i: usize, x: u32) -> u32
     (list[i] == x) as u32
 }
 
-// 19 where a list of at most four words lacks a word, else 0. Four places are looked at, whatever its length: those past its end are its last.
+// 19 where a list of at most four words lacks a word, else 0. Four places are looked at, whatever its length:
+// those past its end are its last.
 fn few_fault(list: &[u32], x: u32) -> u32
     requires { ⌜ length (now list) ≤ 4 ⌝ }
     ensures { λ r. ⌜ r ≡ unless (member x (now (list .entry))) ⌝ }
@@ -52,7 +54,8 @@ fn few_fault(list: &[u32], x: u32) -> u32
     0
 }
 
-// 19 unless an entry of vertex v has its reverse on the other side: its neighbour's entry of the same label and v; else 0.
+// 19 unless an entry of vertex v has its reverse on the other side: its neighbour's entry of the same label
+// and v; else 0.
 fn reverse_fault(
     store: &[u32],
     n: usize,
@@ -62,7 +65,8 @@ fn reverse_fault(
     hints: &mut [u8; Graph::MAX_VERTICES],
 ) -> u32
     requires { ⌜ GoodSide (now store) n other × (v < n) × (n < suc maxGraphVertices) × EntryFits n entry ⌝ }
-    ensures { λ r. ⌜ r ≡ unless (member (reverse v entry) (listOn (now (store .entry)) n other (entry % entrySpan))) ⌝ }
+    ensures { λ r. ⌜ r ≡ unless (member (reverse v entry) (listOn (now (store .entry)) n other
+        (entry % entrySpan))) ⌝ }
 {
     let x = (entry % Graph::SPAN) as usize;
     let reverse = entry - entry % Graph::SPAN + v;
@@ -82,9 +86,13 @@ fn block_fault(
     begun: &[u32],
     hints: &mut [u8; Graph::MAX_VERTICES],
 ) -> u32
-    requires { ⌜ GoodSide (now store) n other × (n < suc maxGraphVertices) × BlockFits n (now entries) (now begun) ⌝ }
-    ensures { λ r. ⌜ r ≡ unless (all (λ (j : ℕ). member (reverse (getD (now (begun .entry)) j 0 - 1) (getD (now (entries .entry)) j 0))
-        (listOn (now (store .entry)) n other (getD (now (entries .entry)) j 0 % entrySpan))) (range (length (now (entries .entry))))) ⌝ }
+    requires { ⌜ GoodSide (now store) n other × (n < suc maxGraphVertices)
+        × BlockFits n (now entries) (now begun) ⌝ }
+    ensures { λ r. ⌜ r
+        ≡ unless (all (λ (j : ℕ). member (reverse (getD (now (begun .entry)) j 0 - 1)
+        (getD (now (entries .entry)) j 0))
+        (listOn (now (store .entry)) n other (getD (now (entries .entry)) j 0 % entrySpan)))
+        (range (length (now (entries .entry))))) ⌝ }
 {
     let mut j = 0;
     while j < entries.len() {
@@ -97,10 +105,12 @@ fn block_fault(
     0
 }
 
-// How many lists begin at each entry of a block; the `next` ones that begin before it are counted at its first.
+// How many lists begin at each entry of a block; the `next` ones that begin before it are counted at its
+// first.
 fn count_starts(starts: &[u32], next: usize, base: usize, counts: &mut [u32])
     requires { ⌜ Begins (now starts) next base × (length (now counts) ≡ blockEntries) ⌝ }
-    ensures { λ _. ⌜ now (counts .exit) ≡ groupSizes (startIn (now (starts .entry)) base) blockEntries (range (length (now (starts .entry)) - 1)) ⌝ }
+    ensures { λ _. ⌜ now (counts .exit) ≡ groupSizes (startIn (now (starts .entry)) base) blockEntries
+        (range (length (now (starts .entry)) - 1)) ⌝ }
 {
     words::clear(counts);
     counts[0] = next as u32;
@@ -146,7 +156,8 @@ fn blocks_fault(
     hints: &mut [u8; Graph::MAX_VERTICES],
 ) -> u32
     requires { ⌜ Flat (now store) n other (now starts) (now entries) × (length (now begun) ≡ blockEntries) ⌝ }
-    ensures { λ r. ⌜ r ≡ unless (entriesReversed (now (store .entry)) n other (now (starts .entry)) (now (entries .entry))) ⌝ }
+    ensures { λ r. ⌜ r ≡ unless (entriesReversed (now (store .entry)) n other (now (starts .entry))
+        (now (entries .entry))) ⌝ }
 {
     let mut next = 0;
     let mut base = 0;

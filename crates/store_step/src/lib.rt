@@ -83,7 +83,8 @@ fn verdict(store: &[u32], n: usize, other: usize, v: usize, list: &[u32], i: usi
     requires { ⌜ ((t : ℕ) → t < n → Within (now store) n other t)
         × (v < n) × (n ≤ maxGraphVertices) × (i < length (now list)) ⌝ }
     ensures { λ r. ⌜ Refutes r
-        (listFits n (now (list .entry)) && listReversed (now (store .entry)) n other v (now (list .entry))) ⌝ }
+        (listFits n (now (list .entry)) && listReversed (now (store .entry)) n other v
+        (now (list .entry))) ⌝ }
 {
     let entry = list[i];
     let fault = entry_fault(entry, entry_before(list, i), n);
@@ -107,7 +108,8 @@ fn matched(
     back: &[u32],
     cursors: &mut [u32],
 ) -> usize
-    requires { ⌜ (from ≤ length (now list)) × (v < n) × (n ≤ maxGraphVertices) × (n ≤ length (now cursors)) ⌝ }
+    requires { ⌜ (from ≤ length (now list)) × (v < n) × (n ≤ maxGraphVertices)
+        × (n ≤ length (now cursors)) ⌝ }
     requires { ⌜ (0 < base) × (base + entrySpan ≤ entryEnd) × (length (now back) ≤ maxGraphEdges) ⌝ }
     ensures { λ r. ⌜ Matched n v base (now (list .entry)) (now (back .entry)) from r
         (now (cursors .entry)) (now (cursors .exit)) ⌝ }

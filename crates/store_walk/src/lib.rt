@@ -90,7 +90,8 @@ fn ends_fault(
     cursors: &[u32],
     done: &[u16],
 ) -> u32
-    requires { ⌜ BothRise (now store) n m side other × (n ≤ length (now cursors)) × (n ≤ length (now done)) ⌝ }
+    requires { ⌜ BothRise (now store) n m side other × (n ≤ length (now cursors))
+        × (n ≤ length (now done)) ⌝ }
     ensures { λ r. ⌜ Ended (now (store .entry)) n side other (now (cursors .entry)) (now (done .entry)) r ⌝ }
 {
     if cursors_apart(cursors, &store[other + 1..other + 1 + n]) != 0 {

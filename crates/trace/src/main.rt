@@ -1,5 +1,6 @@
-// trace: loads the graph file g.bin of the folder it runs in, runs the plan p.bin of the query q.bin over it with the cache on,
-// and prints the rows, or the refusal. It reads, calls and prints; what it prints is computed by `load` and `run`.
+// trace: loads the graph file g.bin of the folder it runs in, runs the plan p.bin of the query q.bin over it
+// with the cache on, and prints the rows, or the refusal. It reads, calls and prints; what it prints is
+// computed by `load` and `run`.
 ghost use Rattle.io.specs.Counts.{Counts};
 use lending::Lending;
 use libc::STDOUT_FILENO;
@@ -17,7 +18,8 @@ const SCRATCH_WORDS: usize = 2048;
 
 const LIST_WORDS: usize = 2048;
 
-// Reads until the buffer is full or the file ends, and answers how many bytes came; 0 where a read fails, whatever came before.
+// Reads until the buffer is full or the file ends, and answers how many bytes came; 0 where a read fails,
+// whatever came before.
 fn read_all(fd: i32, buffer: &mut [u8]) -> usize
     ensures { λ r. ⌜ Counts r (now (buffer .exit)) ⌝ }
 {
@@ -36,7 +38,8 @@ fn read_all(fd: i32, buffer: &mut [u8]) -> usize
     done
 }
 
-// Reads a file as far as the buffer goes and answers how many bytes came; 0 where the file is missing or can't be read to its end.
+// Reads a file as far as the buffer goes and answers how many bytes came; 0 where the file is missing or
+// can't be read to its end.
 fn read(name: &[u8], buffer: &mut [u8]) -> usize
     ensures { λ r. ⌜ Counts r (now (buffer .exit)) ⌝ }
 {

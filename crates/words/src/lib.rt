@@ -41,7 +41,8 @@ fn set_words(part: &[u32]) -> u32
 
 // Where the zeros at the end begin, up to a block of words.
 fn used(part: &[u32]) -> usize
-    ensures { λ r. ⌜ (r ≤ length (now (part .entry))) × (drop r (now (part .entry)) ≡ replicate (length (now (part .entry)) - r) 0) ⌝ }
+    ensures { λ r. ⌜ (r ≤ length (now (part .entry))) × (drop r (now (part .entry))
+        ≡ replicate (length (now (part .entry)) - r) 0) ⌝ }
 {
     let mut end = part.len();
     while BLOCK <= end {
@@ -53,7 +54,8 @@ fn used(part: &[u32]) -> usize
     end
 }
 
-// Zeros in every word, of which those at the end are read before they are written: memory that was never written is not written now.
+// Zeros in every word, of which those at the end are read before they are written: memory that was never
+// written is not written now.
 pub fn clear_used(part: &mut [u32])
     ensures { λ _. ⌜ now (part .exit) ≡ replicate (length (now (part .entry))) 0 ⌝ }
 {
@@ -76,7 +78,8 @@ pub fn copy(from: &[u32], count: usize, to: &mut [u32])
 // The `count` words from `from` on, moved down to the front of their part.
 pub fn move_down(part: &mut [u32], from: usize, count: usize)
     requires { ⌜ from + count ≤ length (now part) ⌝ }
-    ensures { λ _. ⌜ now (part .exit) ≡ take count (drop from (now (part .entry))) ++ drop count (now (part .entry)) ⌝ }
+    ensures { λ _. ⌜ now (part .exit) ≡ take count (drop from (now (part .entry)))
+        ++ drop count (now (part .entry)) ⌝ }
 {
     let mut i = 0;
     while i < count {

@@ -1,5 +1,5 @@
--- What the store holds of a vertex: 'a vertex's portion for one label is a part of the store, handed on uncopied'.
--- Assumes nothing.
+-- What the store holds of a vertex: 'a vertex's portion for one label is a part of the store, handed on
+-- uncopied'. Assumes nothing.
 use mathlib.Core.Bool.{Bool}
 use mathlib.Core.List.{List, map}
 use Prim.Native.Nat.{ℕ, _+_, _/_, _%_}
@@ -15,7 +15,8 @@ listOf d g x = sort (map (entry d) (keep (λ (e : Edge). eqb (near d e) x) (g .e
 unfoldable pub portion : Direction → Graph → ℕ → ℕ → List ℕ
 portion d g l x = keep (λ (k : ℕ). covers l (k / entrySpan)) (listOf d g x)
 
--- Every entry of a list is of one label, whose entries begin at `key`; so the list ascends by neighbour where it ascends.
+-- Every entry of a list is of one label, whose entries begin at `key`; so the list ascends by neighbour where
+-- it ascends.
 abbrev pub keyed : ℕ → List ℕ → Bool
 keyed key list = all (λ (k : ℕ). eqb k (key + k % entrySpan)) list
 

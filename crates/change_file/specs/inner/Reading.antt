@@ -16,4 +16,5 @@ pub record Sized (s : List ℕ) : Type 0 where
 
 -- The fault of a file's length and fill bits.
 unfoldable pub changeLengthFault : List ℕ → ℕ
-changeLengthFault s = refuse 27 (not (eqb (length s) (changeSize s) && not (fillSet s (changeStart (changeCount s)))))
+changeLengthFault s = refuse 27 (not (eqb (length s) (changeSize s)
+    && not (fillSet s (changeStart (changeCount s)))))

@@ -24,9 +24,11 @@ entriesOf v ks = map (λ (k : ℕ). k % entryEnd) (keep (keyAt v) ks)
 unfoldable pub changeKeys : Direction → List ℕ → List ℕ
 changeKeys d s = sort (map (λ (i : ℕ). key d (changedEdge s i)) (range (changeCount s)))
 
--- Those that a side is merged with: the ones given, or where none are given the forward ones, which the file has in order.
+-- Those that a side is merged with: the ones given, or where none are given the forward ones, which the file
+-- has in order.
 unfoldable pub sideKeys : List ℕ → List ℕ → List ℕ
-sideKeys s keys = cond (eqb (length keys) 0) (map (λ (i : ℕ). key forward (changedEdge s i)) (range (changeCount s))) keys
+sideKeys s keys = cond (eqb (length keys) 0) (map (λ (i : ℕ). key forward (changedEdge s i))
+    (range (changeCount s))) keys
 
 -- A file with no keys, or with as many as it has changes.
 pub record Keyed (s keys : List ℕ) : Type 0 where
@@ -41,7 +43,8 @@ entryAt v k = cond (eqb (k / entryEnd) v) (k % entryEnd) entryEnd
 abbrev pub nextEntry : List ℕ → ℕ → ℕ → ℕ
 nextEntry cs v j = cond (ltb j (length cs)) (entryAt v (getD cs j 0)) entryEnd
 
--- A vertex's list and the changes of that vertex, which are the next ones of all, with room for what comes of them.
+-- A vertex's list and the changes of that vertex, which are the next ones of all, with room for what comes of
+-- them.
 pub record Mergeable (xs cs : List ℕ) (v from room : ℕ) : Type 0 where
   pub list-ascends : ascending xs ≡ true
   pub changes-ascend : ascending cs ≡ true
@@ -83,7 +86,8 @@ pub record Fitting (ks cs : List ℕ) (n room : ℕ) : Type 0 where
   pub countable : length (toggled ks cs) < 4294967296
   pub fits : suc n + length (toggled ks cs) ≤ room
 
--- The new side is written for the vertices below v: their offsets and the one after them, and their entries, which are `len`.
+-- The new side is written for the vertices below v: their offsets and the one after them, and their entries,
+-- which are `len`.
 pub record Written (new : List ℕ) (n : ℕ) (side₀ : List ℕ) (v : ℕ) (side : List ℕ) (len : ℕ) : Type 0 where
   pub within : v ≤ n
   pub long : length side ≡ length side₀
@@ -106,7 +110,8 @@ pub record Copyable (ks : List ℕ) (n v u len room : ℕ) : Type 0 where
 -- They are written after the entries that were, of which there are then `many` more.
 abbrev pub Copied : List ℕ → ℕ → ℕ → ℕ → ℕ → List ℕ → List ℕ → ℕ → Type 0
 Copied ks n v u len side out many =
-    (new side₀ : List ℕ) → ascending new ≡ true → Untouched ks new v u → Written new n side₀ v side len → Written new n side₀ u out (len + many)
+    (new side₀ : List ℕ) → ascending new ≡ true → Untouched ks new v u → Written new n side₀ v side len
+    → Written new n side₀ u out (len + many)
 
 -- The first words of one slice, less one number and more another, stand at the front of a second.
 pub record Moved (from : List ℕ) (many less more : ℕ) (to₀ to : List ℕ) : Type 0 where
@@ -116,4 +121,6 @@ pub record Moved (from : List ℕ) (many less more : ℕ) (to₀ to : List ℕ) 
 
 -- No two changes of a file have one backward key.
 abbrev pub Distinct : List ℕ → Type 0
-Distinct s = (x : ℕ) → countIf (λ (y : ℕ). eqb y x) (map (λ (i : ℕ). key backward (changedEdge s i)) (range (changeCount s))) ≤ 1
+Distinct s = (x : ℕ)
+    → countIf (λ (y : ℕ). eqb y x) (map (λ (i : ℕ). key backward (changedEdge s i)) (range (changeCount s)))
+    ≤ 1

@@ -7,7 +7,8 @@ use Rattle.graph.specs.Store.{storeFault}
 use Rattle.adjacency.specs.inner.Side.{verticesIn, sideIn}
 use Rattle.change_file.specs.File.{changeCount, changeFault}
 
--- A store that is not refused, of n vertices, whose forward side begins at a word, and a change file of k changes that is not refused.
+-- A store that is not refused, of n vertices, whose forward side begins at a word, and a change file of k
+-- changes that is not refused.
 pub record Editable (old : List ℕ) (n at : ℕ) (s : List ℕ) (k : ℕ) : Type 0 where
   pub accepted : storeFault old ≡ 0
   pub vertices : n ≡ verticesIn old

@@ -17,7 +17,8 @@ use Rattle.plan_bounds.specs.declared.BoundsAnswer.{BoundsAnswer}
 use Rattle.plan_bounds.specs.declared.longest.Portions.{Portions}
 use Rattle.plan_bounds.specs.declared.pile.Bounded.{Bounded}
 use Rattle.plan_bounds.specs.declared.pile.Pile.{Pile}
-use Rattle.plan_bounds.specs.Bounds.{least, Bound, StepBound, applyBound, stepBound, listBound, needBound, costsBound, largestBound}
+use Rattle.plan_bounds.specs.Bounds.{least, Bound, StepBound, applyBound, stepBound, listBound}
+use Rattle.plan_bounds.specs.Bounds.{needBound, costsBound, largestBound}
 use Rattle.plan_bounds.specs.Answer.{given}
 
 -- ---- portions
@@ -82,7 +83,8 @@ pub record Piled (pile : List Bound) (steps : List StepBound) (p : Pile) : Type 
 
 -- After an operator it is the pile of bounds after it, with the bounds of its step.
 abbrev pub After : Graph → Query → Operator → Pile → Pile → Type 0
-After g q o p r = (pile : List Bound) (steps : List StepBound) → Piled pile steps p → Piled (applyBound g q o pile) (steps ++ (stepBound g q o pile ∷ [])) r
+After g q o p r = (pile : List Bound) (steps : List StepBound) → Piled pile steps p
+    → Piled (applyBound g q o pile) (steps ++ (stepBound g q o pile ∷ [])) r
 
 -- The four numbers of operators over a graph.
 pub record Numbers (g : Graph) (q : Query) (os : List Operator) (a : BoundsAnswer) : Type 0 where

@@ -13,11 +13,19 @@ use Rattle.plan.specs.File.{operatorCount, place, operatorFault}
 
 -- A query of n vertices and m edges. The faults of a plan's file look at no more of a query.
 abbrev pub ofSize : ℕ → ℕ → Query
-ofSize n m = record { vertices = n; labels = []; firsts = []; lasts = []; edges = replicate m (record { source = 0; label = 0; target = 0 }); pairs = [] }
+ofSize n m = record {
+  vertices = n;
+  labels = [];
+  firsts = [];
+  lasts = [];
+  edges = replicate m (record { source = 0; label = 0; target = 0 });
+  pairs = [];
+}
 
 -- '14 .. an edge or vertex the query lacks', of an operand after a kind, for n vertices and m edges.
 abbrev pub operandFault : ℕ → ℕ → ℕ → ℕ → ℕ
-operandFault k x n m = first (refuse 14 (eqb k scanKind && not (ltb x m)) ∷ refuse 14 (eqb k extendKind && not (ltb x n)) ∷ [])
+operandFault k x n m = first (refuse 14 (eqb k scanKind && not (ltb x m))
+    ∷ refuse 14 (eqb k extendKind && not (ltb x n)) ∷ [])
 
 -- The faults of a plan file whose operators end at a bit position.
 abbrev pub endFaults : List ℕ → ℕ → List ℕ
@@ -30,4 +38,5 @@ operatorsFaults q s k = map (λ (i : ℕ). operatorFault q s (place s i)) (range
 -- The faults of a plan's file, before the rules are looked at.
 unfoldable pub planFileFault : Query → List ℕ → ℕ
 planFileFault q s =
-    first (refuse 12 (ltb (bitsIn s) 5) ∷ refuse 14 (eqb (operatorCount s) 0) ∷ operatorsFaults q s (operatorCount s))
+    first (refuse 12 (ltb (bitsIn s) 5) ∷ refuse 14 (eqb (operatorCount s) 0)
+    ∷ operatorsFaults q s (operatorCount s))

@@ -14,7 +14,8 @@ use Rattle.plan_order.specs.Order.{edgesOf}
 
 -- What a label counts in a list of entries, for every label.
 unfoldable pub labelCounts : List ℕ → List ℕ
-labelCounts entries = map (λ (l : ℕ). countIf (λ (k : ℕ). covers l (k / entrySpan)) entries) (range (suc maxEdgeLabel))
+labelCounts entries = map (λ (l : ℕ). countIf (λ (k : ℕ). covers l (k / entrySpan)) entries)
+    (range (suc maxEdgeLabel))
 
 -- The data edges of every label.
 unfoldable pub edgeCounts : Graph → List ℕ

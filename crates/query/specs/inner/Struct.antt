@@ -44,7 +44,8 @@ queryIn d =
       pairs = map (pairOf d) (range (d .pairs));
     }
 
--- What the code asks of a struct: counts that its arrays hold, and ends that are vertices of the largest query.
+-- What the code asks of a struct: counts that its arrays hold, and ends that are vertices of the largest
+-- query.
 pub record Held (d : QueryStruct) : Type 0 where
   pub vertices : d .vertices ≤ maxVertices
   pub edges : d .edges ≤ maxEdges
@@ -58,7 +59,8 @@ pub record Held (d : QueryStruct) : Type 0 where
 abbrev pub byteLabel : Edge → Bool
 byteLabel e = ltb (e .label) (suc maxEdgeLabel)
 
--- What a query vertex asks of a data vertex, as the code has it. No day is asked where the range is the whole.
+-- What a query vertex asks of a data vertex, as the code has it. No day is asked where the range is the
+-- whole.
 unfoldable pub filterOf : QueryStruct → ℕ → FilterStruct
 filterOf d w =
     record {

@@ -1,4 +1,5 @@
--- Parts of the query file and of Read query's refusal, which functions of the code answer one by one. Assumes nothing.
+-- Parts of the query file and of Read query's refusal, which functions of the code answer one by one. Assumes
+-- nothing.
 use mathlib.Core.Path.{_≡_}
 use mathlib.Core.Bool.{false, not, _&&_, _||_}
 use mathlib.Core.List.{List, [], _∷_, map}
@@ -10,7 +11,9 @@ use Rattle.lists.specs.Refusal.{refuse, first}
 use Rattle.packed.specs.Field.{fieldAt, bitsIn, bytesFor, fillSet}
 use Rattle.graph.specs.Graph.{Edge}
 use Rattle.query.specs.Query.{Pair}
-use Rattle.query.specs.File.{minVertices, maxVertices, minEdges, maxEdges, vertexCount, edgeCount, pairCount, vertexStart, pairStart, outsideLimits, countedSize, dayFault, key, badEdge, edgeFault, pairKey, badPair, pairFault}
+use Rattle.query.specs.File.{minVertices, maxVertices, minEdges, maxEdges, vertexCount, edgeCount, pairCount}
+use Rattle.query.specs.File.{vertexStart, pairStart, outsideLimits, countedSize, dayFault, key, badEdge}
+use Rattle.query.specs.File.{edgeFault, pairKey, badPair, pairFault}
 
 -- A field of vertex w: 16 bits, o bits past the vertex's start.
 abbrev pub vertexField : List ℕ → ℕ → ℕ → ℕ
@@ -30,15 +33,21 @@ limitsFault n m = refuse 8 (not (leb minVertices n && leb n maxVertices && leb m
 
 -- '6 shorter than its own size; 7 longer, or a fill bit set', of a file that is to have b bits.
 abbrev pub sizeFault : List ℕ → ℕ → ℕ
-sizeFault s b = first (refuse 6 (ltb (length s) (bytesFor b)) ∷ refuse 7 (ltb (bytesFor b) (length s)) ∷ refuse 7 (fillSet s b) ∷ [])
+sizeFault s b = first (refuse 6 (ltb (length s) (bytesFor b)) ∷ refuse 7 (ltb (bytesFor b) (length s))
+    ∷ refuse 7 (fillSet s b) ∷ [])
 
 -- '6 .. ends before its pair count' does, then the faults of its size.
 unfoldable pub sizesFault : List ℕ → ℕ
-sizesFault s = first (refuse 6 (ltb (length s) (countedSize s)) ∷ sizeFault s (pairStart s (pairCount s)) ∷ [])
+sizesFault s = first (refuse 6 (ltb (length s) (countedSize s)) ∷ sizeFault s (pairStart s (pairCount s))
+    ∷ [])
 
 -- The edge that begins at a bit position.
 abbrev pub edgeFrom : List ℕ → ℕ → Edge
-edgeFrom s at = record { source = fieldAt s at 3; target = fieldAt s (at + 3) 3; label = fieldAt s (at + 6) 8 }
+edgeFrom s at = record {
+  source = fieldAt s at 3;
+  target = fieldAt s (at + 3) 3;
+  label = fieldAt s (at + 6) 8;
+}
 
 -- '9 ..' of an edge, and '10 not ascending' where its key is below the least that ascends.
 abbrev pub keyFault : ℕ → ℕ → Edge → ℕ
@@ -76,7 +85,8 @@ queryFileFault s =
     ∷ queryPairsFault s (pairCount s)
     ∷ [])
 
--- A file from which the code may read a query: n and m are within their limits, and the bits of all that it counts are there.
+-- A file from which the code may read a query: n and m are within their limits, and the bits of all that it
+-- counts are there.
 pub record Readable (s : List ℕ) : Type 0 where
   pub limits : outsideLimits s ≡ false
   pub bits : pairStart s (pairCount s) ≤ bitsIn s

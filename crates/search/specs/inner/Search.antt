@@ -10,8 +10,8 @@ use Rattle.lists.specs.Lists.{any, countIf}
 unfoldable pub below : ℕ → List ℕ → ℕ
 below x s = countIf (λ (w : ℕ). ltb w x) s
 
--- The first index from `from` on whose word is not below x. In an ascending list the words below x come first, so that it is `from`
--- and one more for each of them from there on.
+-- The first index from `from` on whose word is not below x. In an ascending list the words below x come
+-- first, so that it is `from` and one more for each of them from there on.
 unfoldable pub firstFrom : List ℕ → ℕ → ℕ → ℕ
 firstFrom s from x = from + below x (drop from s)
 

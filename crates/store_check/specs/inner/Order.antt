@@ -1,5 +1,6 @@
--- How the check tests the lists of a side all at once: the words that are not above the one before them, counted over all entries
--- and at the first words of lists alone. Where the counts are equal, no list has such a word within. Assumes nothing.
+-- How the check tests the lists of a side all at once: the words that are not above the one before them,
+-- counted over all entries and at the first words of lists alone. Where the counts are equal, no list has
+-- such a word within. Assumes nothing.
 use mathlib.Core.Path.{_≡_}
 use mathlib.Core.Bool.{Bool, _&&_}
 use mathlib.Core.List.{List, [], _∷_}
@@ -18,9 +19,11 @@ fallsFrom x (y ∷ ys) = bit (leb y x) + fallsFrom y ys
 abbrev pub startFalls : List ℕ → ℕ → ℕ → ℕ → Bool
 startFalls store n side v =
     ltb (getD store (side + v) 0) (getD store (side + v + 1) 0)
-    && leb (getD store (side + n + getD store (side + v) 0 + 1) 0) (getD store (side + n + getD store (side + v) 0) 0)
+    && leb (getD store (side + n + getD store (side + v) 0 + 1) 0)
+    (getD store (side + n + getD store (side + v) 0) 0)
 
--- How many of the three ranges of an entry are broken: its label is at least 1 and at most 255, and its neighbour below n.
+-- How many of the three ranges of an entry are broken: its label is at least 1 and at most 255, and its
+-- neighbour below n.
 abbrev pub faultsOf : ℕ → ℕ → ℕ
 faultsOf n k = bit (ltb k entrySpan) + bit (leb entryEnd k) + bit (leb n (k % entrySpan))
 

@@ -1,4 +1,5 @@
--- The vertex of each entry of a side, without a walk along its list: how many lists begin at the entry or before it. Assumes nothing.
+-- The vertex of each entry of a side, without a walk along its list: how many lists begin at the entry or
+-- before it. Assumes nothing.
 use mathlib.Core.Path.{_≡_}
 use mathlib.Core.Bool.{Bool, true}
 use mathlib.Core.List.{List, map}
@@ -15,7 +16,8 @@ use Rattle.store_reverse.specs.inner.Check.{offsetsFit, offsetsOn, sideF
 abbrev pub blockEntries : ℕ
 blockEntries = 1024
 
--- How many lists begin before entry i, by where each begins. The last of the offsets is where the entries end.
+-- How many lists begin before entry i, by where each begins. The last of the offsets is where the entries
+-- end.
 unfoldable pub begun : List ℕ → ℕ → ℕ
 begun starts i = countIf (λ (v : ℕ). ltb (getD starts v 0) i) (range (length starts - 1))
 
@@ -59,10 +61,12 @@ pub record Flat (store : List ℕ) (n other : ℕ) (starts entries : List ℕ) :
 -- Entry i has its reverse on the other side.
 abbrev pub entryReversed : List ℕ → ℕ → ℕ → List ℕ → List ℕ → ℕ → Bool
 entryReversed store n other starts entries i =
-    member (reverse (begun starts (suc i) - 1) (getD entries i 0)) (listOn store n other (getD entries i 0 % entrySpan))
+    member (reverse (begun starts (suc i) - 1) (getD entries i 0))
+    (listOn store n other (getD entries i 0 % entrySpan))
 
 unfoldable pub entriesReversed : List ℕ → ℕ → ℕ → List ℕ → List ℕ → Bool
-entriesReversed store n other starts entries = all (entryReversed store n other starts entries) (range (length entries))
+entriesReversed store n other starts entries = all (entryReversed store n other starts entries)
+    (range (length entries))
 
 -- A side of m entries that fits, and another that it may reverse.
 pub record Sides (store : List ℕ) (n m side other : ℕ) : Type 0 where

@@ -11,11 +11,13 @@ use Rattle.graph.specs.Graph.{maxGraphVertices, maxGraphEdges, entrySpan, entry
 use Rattle.adjacency.specs.inner.Side.{listOn, Within}
 use Rattle.store_reverse.specs.inner.Check.{unless, reverse, offsetsFit, offsetsOn, sideFits, sideReversed}
 
--- ---- answers: 0 where both sides fit and reverse each other, 19 where they do not, 1 where that is not known
+-- ---- answers
+-- 0 where both sides fit and reverse each other, 19 where they do not, 1 where that is not known.
 
 -- Both sides fit, and every entry of the first is reversed on the second.
 unfoldable pub sidesAgree : List ℕ → ℕ → ℕ → ℕ → Bool
-sidesAgree store n side other = sideFits store n side && (sideReversed store n side other && sideFits store n other)
+sidesAgree store n side other = sideFits store n side && (sideReversed store n side other
+    && sideFits store n other)
 
 -- An answer is 1, or 19 of a test that fails.
 abbrev pub Refutes : ℕ → Bool → Type 0
@@ -40,7 +42,8 @@ before s (suc i) = getD s i 0
 
 -- An entry of vertex v, of the label whose entries begin at `base`, found at the cursor of its neighbour,
 -- which moved on.
-pub record MatchedEntry (n v base : ℕ) (list back : List ℕ) (from : ℕ) (old new : List ℕ) (j : ℕ) : Type 0 where
+pub record MatchedEntry (n v base : ℕ) (list back : List ℕ) (from : ℕ) (old new : List ℕ) (j : ℕ) :
+    Type 0 where
   pub low : base ≤ getD list j 0
   pub high : getD list j 0 < base + entrySpan
   pub neighbour : getD list j 0 - base < n
@@ -75,7 +78,8 @@ pub record Arrived (starts : ℕ → ℕ) (back cursors : List ℕ) (v k : ℕ) 
   pub word : getD back place 0 ≡ reverse v k
 
 -- An entry that is done: in order, in its range, and arrived.
-pub record Done (n : ℕ) (starts : ℕ → ℕ) (back cursors : List ℕ) (v : ℕ) (list : List ℕ) (j : ℕ) : Type 0 where
+pub record Done (n : ℕ) (starts : ℕ → ℕ) (back cursors : List ℕ) (v : ℕ) (list : List ℕ) (j : ℕ) :
+    Type 0 where
   pub rises : before list j < getD list j 0
   pub narrow : getD list j 0 < entryEnd
   pub neighbour : getD list j 0 % entrySpan < n
@@ -154,5 +158,6 @@ pub record Stepped (store : List ℕ) (n side other : ℕ) (back : List ℕ) (ba
 -- are done as it has.
 pub record Ended (store : List ℕ) (n side other : ℕ) (cursors done : List ℕ) (r : ℕ) : Type 0 where
   pub cursors-end : r ≡ 0 → (t : ℕ) → t < n → getD cursors t 0 ≡ getD store (other + t + 1) 0
-  pub all-done : r ≡ 0 → (v : ℕ) → v < n → getD store (side + v + 1) 0 ≤ getD store (side + v) 0 + getD done v 0
+  pub all-done : r ≡ 0 → (v : ℕ) → v < n → getD store (side + v + 1) 0
+      ≤ getD store (side + v) 0 + getD done v 0
   pub else-undecided : (r ≡ 0 → ⊥) → r ≡ 1
