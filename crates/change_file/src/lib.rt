@@ -11,6 +11,7 @@ ghost use Rattle.change_file.specs.File.{changeCount, addsIn, changedEdg
 ghost use Rattle.change_file.specs.inner.Reading.{Sized, changeLengthFault};
 use graph::Graph;
 use packed::field;
+use refusals::Refusal;
 
 pub fn change_count(file: &[u8]) -> usize
     requires { ⌜ 3 ≤ length (now file) ⌝ }
@@ -55,14 +56,14 @@ fn length_fault(file: &[u8]) -> u32
     ensures { λ r. ⌜ r ≡ changeLengthFault (now (file .entry)) ⌝ }
 {
     if file.len() < 3 {
-        return 27;
+        return Refusal::CHANGES_FILE;
     }
     let bits = 20 + 41 * change_count(file);
     if file.len() != packed::bytes_for(bits) {
-        return 27;
+        return Refusal::CHANGES_FILE;
     }
     if packed::fill_set(file, bits) {
-        return 27;
+        return Refusal::CHANGES_FILE;
     }
     0
 }
@@ -79,17 +80,17 @@ fn edges_fault(file: &[u8], n: usize, k: usize) -> u32
         let s = source(file, i);
         let e = forward_entry(file, i);
         if n <= s as usize {
-            return 27;
+            return Refusal::CHANGES_FILE;
         }
         if n <= (e % Graph::SPAN) as usize {
-            return 27;
+            return Refusal::CHANGES_FILE;
         }
         if e < Graph::SPAN {
-            return 27;
+            return Refusal::CHANGES_FILE;
         }
         let key = change_key(file, i);
         if key < least {
-            return 27;
+            return Refusal::CHANGES_FILE;
         }
         least = key + 1;
         i += 1;

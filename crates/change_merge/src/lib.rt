@@ -18,7 +18,9 @@ use graph::Graph;
 
 // How many words were written, and the number of the next change.
 pub struct Merged {
+    // How many words were written.
     pub len: usize,
+    // The number of the next change.
     pub next: usize,
 }
 

@@ -11,6 +11,7 @@ ghost use Rattle.changes.specs.Edit.{editFault};
 ghost use Rattle.change_file.specs.inner.Reading.{Sized};
 ghost use Rattle.changes.specs.inner.Edits.{Editable};
 use adjacency::neighbours;
+use refusals::Refusal;
 use search::lower_bound;
 use search::walk_up;
 
@@ -61,7 +62,7 @@ pub fn edits_fault(old: &[u32], n: usize, at: usize, file: &[u8], k: usize) -> u
         let e = change_file::forward_entry(file, i);
         guess = place(list, e, guess);
         if stands(list, e, guess) == change_file::adds(file, i) {
-            return 28;
+            return Refusal::CHANGES_EDGE;
         }
         i += 1;
     }

@@ -9,6 +9,7 @@ ghost use Rattle.changes.specs.Edit.{applyFault, applyAnswer, changedSto
 ghost use Rattle.change_file.specs.inner.Reading.{Sized};
 use graph::Graph;
 use load::Loaded;
+use refusals::Refusal;
 
 mod edits;
 mod fill;
@@ -43,10 +44,10 @@ fn apply_fault(old: &[u32], file: &[u8], room: usize) -> u32
     }
     let m = edited_edges(file, k, g.edges);
     if Graph::MAX_EDGES < m {
-        return 29;
+        return Refusal::CHANGES_MANY;
     }
     if room < 4 + 4 * n + 2 * m {
-        return 5;
+        return Refusal::STORE_SMALL;
     }
     0
 }

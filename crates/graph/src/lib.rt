@@ -10,7 +10,9 @@ ghost use Rattle.graph.specs.inner.Side.{sideAt};
 // sides. A side is N + 1 offsets followed by M entries; the forward side has the targets of each source, the
 // backward side the sources of each target.
 pub struct Graph {
+    // N.
     pub vertices: usize,
+    // M.
     pub edges: usize,
 }
 

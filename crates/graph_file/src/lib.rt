@@ -11,6 +11,7 @@ ghost use Rattle.graph_file.specs.inner.Reading.{Whole, vertexField, edg
 ghost use Rattle.graph_file.specs.inner.Reading.{graphEdgesFault};
 use graph::Graph;
 use packed::field;
+use refusals::Refusal;
 
 pub fn vertex_count(file: &[u8]) -> usize
     requires { ⌜ 5 ≤ length (now file) ⌝ }
@@ -75,19 +76,19 @@ fn length_fault(file: &[u8]) -> u32
     ensures { λ r. ⌜ r ≡ graphLengthFault (now (file .entry)) ⌝ }
 {
     if file.len() < 5 {
-        return 1;
+        return Refusal::GRAPH_SHORT;
     }
     let n = vertex_count(file);
     let m = edge_count(file);
     let size = 5 + 4 * n + 5 * m;
     if file.len() < size {
-        return 1;
+        return Refusal::GRAPH_SHORT;
     }
     if size < file.len() {
-        return 2;
+        return Refusal::GRAPH_LONG;
     }
     if packed::fill_set(file, edge_start(n, m)) {
-        return 2;
+        return Refusal::GRAPH_LONG;
     }
     0
 }
@@ -112,17 +113,17 @@ fn edges_fault(file: &[u8], n: usize, m: usize) -> u32
         let s = source(file, n, i);
         let e = forward_entry(file, n, i);
         if n <= s as usize {
-            return 3;
+            return Refusal::GRAPH_EDGE;
         }
         if n <= (e % Graph::SPAN) as usize {
-            return 3;
+            return Refusal::GRAPH_EDGE;
         }
         if e / Graph::SPAN == 0 {
-            return 3;
+            return Refusal::GRAPH_EDGE;
         }
         let key = edge_key(s, e);
         if key < least {
-            return 4;
+            return Refusal::GRAPH_ORDER;
         }
         least = key + 1;
         i += 1;
@@ -154,7 +155,7 @@ pub fn load_fault(file: &[u8], room: usize) -> u32
         edges: edge_count(file),
     };
     if room < g.words() {
-        return 5;
+        return Refusal::STORE_SMALL;
     }
     0
 }

@@ -9,13 +9,17 @@ ghost use Rattle.lending.specs.Lending.{Fills};
 
 // The records in an array, and how many of them are lent; all, where that is more than there are.
 pub struct Lending {
+    // The records.
     pub records: [Record; Plan::MAX_OPERATORS],
+    // How many of them are lent; all, where that is more than there are.
     pub lent: usize,
 }
 
 // What Run answers, and the records afterwards.
 pub struct Filled {
+    // What Run answers.
     pub answer: RunAnswer,
+    // The records afterwards.
     pub records: [Record; Plan::MAX_OPERATORS],
 }
 

@@ -7,10 +7,13 @@ ghost use Rattle.load.specs.Answer.{loadAnswer};
 
 mod fill;
 
-// What Load answers: a refusal with zeros, or 0 with N and M.
+// What Load answers: a refusal with zeros, or 0 with the counts.
 pub struct Loaded {
+    // 0 where the graph is in the store.
     pub refusal: u32,
+    // N.
     pub vertices: usize,
+    // M.
     pub edges: usize,
 }
 

@@ -15,16 +15,21 @@ pub enum Operator {
     Join,
 }
 
-// The kinds and operands of a plan's operators; every number past the last is 0.
+// A plan in postfix order; every number past the last operator is 0.
 pub struct Plan {
+    // How many there are.
     pub operators: usize,
+    // What each is: a scan, an extend or a join.
     pub kinds: [u32; Plan::MAX_OPERATORS],
+    // The query edge of a scan, the new vertex of an extend, 0 of a join.
     pub operands: [u32; Plan::MAX_OPERATORS],
 }
 
-// What Check plan answers: the operator count, or a refusal with 0.
+// What Check plan answers: a refusal with 0, or 0 with the operator count.
 pub struct CheckedPlan {
+    // 0 where the plan is accepted.
     pub refusal: u32,
+    // How many operators it has.
     pub operators: usize,
 }
 

@@ -8,13 +8,18 @@ mod pile;
 ghost use mathlib.Core.Path.{_≡_};
 ghost use Rattle.plan_bounds.specs.Answer.{boundsAnswer};
 
-// What is answered: a refusal with zeros, or 0 with the four numbers, each one too large for 64 bits as the
-// largest of them.
+// What Bounds answers: a refusal with zeros, or 0 with the four numbers, each one too large for 64 bits as
+// the largest of them.
 pub struct BoundsAnswer {
+    // 0 where the plan and the store are accepted.
     pub refusal: u32,
+    // At least the words of the match list.
     pub list_words: u64,
+    // At least the need.
     pub scratch_words: u64,
+    // At least the cost.
     pub cost: u64,
+    // The largest bound of an operator's rows.
     pub largest: u64,
 }
 

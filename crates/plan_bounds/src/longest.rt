@@ -21,10 +21,13 @@ ghost use Rattle.adjacency.specs.inner.Side.{sideIn};
 ghost use Rattle.plan_bounds.specs.Bounds.{longestPortion, longestFor, leastPortion, sumOfPortions};
 ghost use Rattle.plan_bounds.specs.inner.Held.{Sided, Counts, Seen, covering};
 
-// How many portions were seen, and the least and the sum of their lengths.
+// What was seen of the longest portions of an extend's query edges.
 pub struct Portions {
+    // How many.
     pub count: usize,
+    // The least of their lengths.
     pub least: usize,
+    // Their lengths together.
     pub sum: usize,
 }
 

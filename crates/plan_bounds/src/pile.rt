@@ -24,21 +24,29 @@ ghost use Rattle.plan_bounds.specs.Bounds.{boundsAfter, stepBounds};
 ghost use Rattle.plan_bounds.specs.Answer.{given};
 ghost use Rattle.plan_bounds.specs.inner.Held.{Put, Under, Piled, After, Numbers};
 
-// What bounds a result: the set that it covers, its rows, and the words that it needs while they are made.
+// What bounds a result.
 pub struct Bounded {
+    // The query vertices that it covers.
     pub set: u32,
+    // At least its rows.
     pub rows: u64,
+    // At least the words that it needs while they are made.
     pub need: u64,
 }
 
-// The bounds of the results in the pile, the top one at depth - 1, and the cost and the largest number of
-// rows so far.
+// The bounds of the results in the pile.
 pub struct Pile {
+    // How many there are; the top one is at depth - 1.
     pub depth: usize,
+    // The query vertices that each covers.
     pub sets: [u32; Plan::MAX_OPERATORS],
+    // At least the rows of each.
     pub rows: [u64; Plan::MAX_OPERATORS],
+    // At least the need of each.
     pub needs: [u64; Plan::MAX_OPERATORS],
+    // At least the cost so far.
     pub cost: u64,
+    // The largest bound of rows so far.
     pub largest: u64,
 }
 

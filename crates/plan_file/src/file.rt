@@ -4,6 +4,7 @@ use packed::bytes_for;
 use packed::field;
 use packed::fill_set;
 use plan::Plan;
+use refusals::Refusal;
 ghost use mathlib.Core.Path.{_≡_};
 ghost use Prim.Native.Nat.{_+_, _^_, _≤_, _<_};
 ghost use lib.ListN.{length};
@@ -57,13 +58,13 @@ fn operand_fault(kind: u32, operand: usize, n: usize, m: usize) -> u32
 {
     if kind == Plan::SCAN {
         if m <= operand {
-            return 14;
+            return Refusal::PLAN_OPERATOR;
         }
         return 0;
     }
     if kind == Plan::EXTEND {
         if n <= operand {
-            return 14;
+            return Refusal::PLAN_OPERATOR;
         }
     }
     0
@@ -76,14 +77,14 @@ fn operator_fault(file: &[u8], at: usize, n: usize, m: usize) -> u32
     ensures { λ r. ⌜ r ≡ operatorFault (ofSize n m) (now (file .entry)) at ⌝ }
 {
     if file.len() < bytes_for(at + 2) {
-        return 12;
+        return Refusal::PLAN_SHORT;
     }
     let kind = field(file, at, 2);
     if kind == Plan::NO_KIND {
-        return 14;
+        return Refusal::PLAN_OPERATOR;
     }
     if file.len() < bytes_for(next_place(file, at)) {
-        return 12;
+        return Refusal::PLAN_SHORT;
     }
     operand_fault(kind, operand(file, at) as usize, n, m)
 }
@@ -94,10 +95,10 @@ fn end_fault(file: &[u8], end: usize) -> u32
     ensures { λ r. ⌜ r ≡ first (endFaults (now (file .entry)) end) ⌝ }
 {
     if bytes_for(end) < file.len() {
-        return 13;
+        return Refusal::PLAN_LONG;
     }
     if fill_set(file, end) {
-        return 13;
+        return Refusal::PLAN_LONG;
     }
     0
 }
@@ -125,11 +126,11 @@ pub fn file_fault(file: &[u8], n: usize, m: usize) -> u32
     ensures { λ r. ⌜ r ≡ planFileFault (ofSize n m) (now (file .entry)) ⌝ }
 {
     if file.len() < 1 {
-        return 12;
+        return Refusal::PLAN_SHORT;
     }
     let count = operator_count(file);
     if count == 0 {
-        return 14;
+        return Refusal::PLAN_OPERATOR;
     }
     operators_fault(file, count, n, m)
 }

@@ -8,6 +8,7 @@ use executor::counted;
 use executor::counting::count_run;
 use plan::Plan;
 use query::Query;
+use refusals::Refusal;
 use words::clear_used;
 use words::copy;
 ghost use mathlib.Core.Path.{_≡_};
@@ -24,9 +25,11 @@ ghost use Rattle.plan_spectrum.specs.Spectrum.{orderingsAnswer, ordering
 ghost use Rattle.plan_spectrum.specs.Claims.{EveryOrderingListed};
 ghost use Rattle.plan_spectrum.specs.inner.Parts.{Small, Lie, AllRun, Settled};
 
-// What all orderings answers: a refusal with 0, or 0 with the number of plans.
+// What All orderings answers: a refusal with 0, or 0 with the number of plans.
 pub struct OrderingsAnswer {
+    // 0 where every ordering is listed.
     pub refusal: u32,
+    // How many there are.
     pub plans: usize,
 }
 
@@ -96,7 +99,7 @@ fn write_orderings(store: &[u32], q: Query, work: &mut [u32], words: &mut [u32])
     let mut list = [0u32; OrderingsAnswer::MAX_NUMBERS];
     let plans = listing::list_orderings(q, &mut list);
     if words.len() < plans * (q.vertices + 1) {
-        return OrderingsAnswer::refused(32);
+        return OrderingsAnswer::refused(Refusal::ORDERINGS_WORDS);
     }
     let mut costs = [0u64; OrderingsAnswer::MAX_PLANS];
     let limit = run_orderings(store, q, &list, plans, work, &mut costs);
@@ -126,7 +129,7 @@ fn orderings_counted(
     }
     let q = query_file::query_of(query);
     if OrderingsAnswer::MAX_VERTICES < q.vertices {
-        return OrderingsAnswer::refused(31);
+        return OrderingsAnswer::refused(Refusal::ORDERINGS_LARGE);
     }
     let fault = store_check::store_fault(store);
     if fault != 0 {

@@ -3,6 +3,7 @@
 mod pack;
 
 use query::Query;
+use refusals::Refusal;
 ghost use mathlib.Core.Path.{_≡_};
 ghost use lib.ListN.{length};
 ghost use Rattle.graph.specs.Store.{graphIn, storeFault};
@@ -12,9 +13,11 @@ ghost use Rattle.planner.specs.Complete.{PassesCheck};
 ghost use Rattle.plan_order.specs.inner.Counts.{Drawable};
 ghost use Rattle.planner.specs.inner.Parts.{Drawn};
 
-// What drawing a plan answers: a refusal with 0, or 0 with the plan's length in bytes.
+// What Draw plan answers: a refusal with 0, or 0 with the plan's length.
 pub struct DrawAnswer {
+    // 0 where a plan is drawn.
     pub refusal: u32,
+    // The bytes of the plan.
     pub bytes: usize,
 }
 
@@ -35,7 +38,7 @@ fn draw_accepted(store: &[u32], q: Query, plan: &mut [u8]) -> DrawAnswer
     let edge = plan_order::scan_edge(q, &plan_order::edge_counts(store));
     let bytes = pack::plan_bytes(q.vertices);
     if plan.len() < bytes {
-        return DrawAnswer::refused(24);
+        return DrawAnswer::refused(Refusal::PLAN_BYTES);
     }
     pack::put_plan(q, edge, plan);
     DrawAnswer { refusal: 0, bytes }

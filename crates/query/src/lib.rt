@@ -1,6 +1,7 @@
 // The query: a small labelled graph whose vertices are to be matched. `specs/` says what a query file holds
 // and when it is refused, `proofs/` has the laws; `query_file` reads one.
 use graph::Graph;
+use refusals::Refusal;
 ghost use mathlib.Core.Path.{_≡_};
 ghost use mathlib.Core.Bool.{not, _&&_};
 ghost use Prim.Native.Nat.{ℕ, _≤_, _<_};
@@ -15,40 +16,59 @@ ghost use Rattle.query.specs.inner.Mask.{inMask, MaskOf, only, neighbour
 
 pub mod set;
 
+// An edge of a query.
 pub struct Edge {
+    // The query vertex that it starts from.
     pub source: usize,
+    // The one that it leads to.
     pub target: usize,
+    // Its label, 0 for any.
     pub label: u32,
 }
 
-// What a query vertex asks of a data vertex: a label, 0 for any, and a day from a first to a last; any_day
-// where the range is the whole.
+// What a query vertex asks of a data vertex.
 pub struct Filter {
+    // Its label, 0 for any.
     pub label: u32,
+    // Its day is no earlier.
     pub first: u32,
+    // Nor later.
     pub last: u32,
+    // Whether every day is in that range.
     pub any_day: bool,
 }
 
-// n vertices with a label, a first and a last day each, m edges, and pairs of vertices of which the low one's
-// data vertex is to be below the high one's, field by field; every number past the last of them is 0.
+// A query, field by field; every number past the last of a kind is 0.
 pub struct Query {
+    // n, how many vertices it has.
     pub vertices: usize,
+    // m, how many edges.
     pub edges: usize,
+    // The label of each vertex, 0 for any.
     pub labels: [u32; Query::MAX_VERTICES],
+    // The first day of each vertex's range.
     pub firsts: [u32; Query::MAX_VERTICES],
+    // The last one.
     pub lasts: [u32; Query::MAX_VERTICES],
+    // The vertex that each edge starts from.
     pub sources: [u32; Query::MAX_EDGES],
+    // The one that it leads to.
     pub targets: [u32; Query::MAX_EDGES],
+    // The label of each edge, 0 for any.
     pub edge_labels: [u32; Query::MAX_EDGES],
+    // How many pairs there are.
     pub pairs: usize,
+    // Of each pair the vertex whose data vertex is to be the lower one.
     pub lows: [u32; Query::MAX_PAIRS],
+    // The other.
     pub highs: [u32; Query::MAX_PAIRS],
 }
 
 // What Read query answers: a refusal with a query of zeros, or 0 with the query.
 pub struct ReadQuery {
+    // 0 where the file is accepted.
     pub refusal: u32,
+    // The query, of zeros where it is not.
     pub query: Query,
 }
 
@@ -189,7 +209,7 @@ impl Query {
         ensures { λ r. ⌜ r ≡ refuse 11 (not (connected (queryIn self))) ⌝ }
     {
         if set::minus(set::below(self.vertices), self.reached()) != 0 {
-            return 11;
+            return Refusal::QUERY_APART;
         }
         0
     }

@@ -8,6 +8,7 @@ use packed::bytes_for;
 use packed::field;
 use packed::fill_set;
 use query::Query;
+use refusals::Refusal;
 ghost use mathlib.Core.Path.{_≡_};
 ghost use Prim.Native.Nat.{_+_, _*_, _^_, _≤_, _<_};
 ghost use Rattle.packed.specs.Field.{bitsIn};
@@ -22,16 +23,16 @@ fn limits_fault(n: usize, m: usize) -> u32
     ensures { λ r. ⌜ r ≡ limitsFault n m ⌝ }
 {
     if n < Query::MIN_VERTICES {
-        return 8;
+        return Refusal::QUERY_LIMITS;
     }
     if Query::MAX_VERTICES < n {
-        return 8;
+        return Refusal::QUERY_LIMITS;
     }
     if m < Query::MIN_EDGES {
-        return 8;
+        return Refusal::QUERY_LIMITS;
     }
     if Query::MAX_EDGES < m {
-        return 8;
+        return Refusal::QUERY_LIMITS;
     }
     0
 }
@@ -43,13 +44,13 @@ fn size_fault(file: &[u8], bits: usize) -> u32
 {
     let size = bytes_for(bits);
     if file.len() < size {
-        return 6;
+        return Refusal::QUERY_SHORT;
     }
     if size < file.len() {
-        return 7;
+        return Refusal::QUERY_LONG;
     }
     if fill_set(file, bits) {
-        return 7;
+        return Refusal::QUERY_LONG;
     }
     0
 }
@@ -61,7 +62,7 @@ fn sizes_fault(file: &[u8], n: usize, m: usize) -> u32
     ensures { λ r. ⌜ r ≡ sizesFault (now (file .entry)) ⌝ }
 {
     if file.len() < bytes_for(pair_start(n, m, 0)) {
-        return 6;
+        return Refusal::QUERY_SHORT;
     }
     let k = pair_count(file, n, m);
     size_fault(file, pair_start(n, m, k))
@@ -77,7 +78,7 @@ fn days_fault(file: &[u8], n: usize) -> u32
         let first = field(file, 9 + 48 * w + 16, 16);
         let last = field(file, 9 + 48 * w + 32, 16);
         if last < first {
-            return 25;
+            return Refusal::QUERY_DAYS;
         }
         w += 1;
     }
@@ -101,16 +102,16 @@ fn edge_fault(file: &[u8], at: usize, n: usize, least: u32) -> u32
     let from = field(file, at, 3) as usize;
     let to = field(file, at + 3, 3) as usize;
     if n <= from {
-        return 9;
+        return Refusal::QUERY_EDGE;
     }
     if n <= to {
-        return 9;
+        return Refusal::QUERY_EDGE;
     }
     if from == to {
-        return 9;
+        return Refusal::QUERY_EDGE;
     }
     if edge_key(file, at) < least {
-        return 10;
+        return Refusal::QUERY_ORDER;
     }
     0
 }
@@ -152,16 +153,16 @@ fn pair_fault(file: &[u8], at: usize, n: usize, least: u32) -> u32
     let low = field(file, at, 3) as usize;
     let high = field(file, at + 3, 3) as usize;
     if n <= low {
-        return 26;
+        return Refusal::QUERY_PAIR;
     }
     if n <= high {
-        return 26;
+        return Refusal::QUERY_PAIR;
     }
     if low == high {
-        return 26;
+        return Refusal::QUERY_PAIR;
     }
     if pair_key(file, at) < least {
-        return 26;
+        return Refusal::QUERY_PAIR;
     }
     0
 }
@@ -192,7 +193,7 @@ pub fn file_fault(file: &[u8]) -> u32
     ensures { λ r. ⌜ r ≡ queryFileFault (now (file .entry)) ⌝ }
 {
     if file.len() < 2 {
-        return 6;
+        return Refusal::QUERY_SHORT;
     }
     let n = vertex_count(file);
     let m = edge_count(file);

@@ -8,10 +8,13 @@ ghost use Prim.Native.Nat.{_≤_, _<_};
 ghost use lib.ListN.{length, take, drop, getD};
 ghost use Rattle.plan.specs.Plan.{maxOperators};
 
-// What a run answers, and what it is to store: the records of so many operators.
+// What a run answers, and what it is to store.
 pub struct Recorded {
+    // The answer.
     pub answer: RunAnswer,
+    // How many records there are to store.
     pub operators: usize,
+    // The records, one an operator.
     pub records: [Record; Plan::MAX_OPERATORS],
 }
 

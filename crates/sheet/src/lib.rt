@@ -5,6 +5,7 @@ mod lines;
 mod number;
 
 use query::Query;
+use refusals::Refusal;
 use run_spec::RunAnswer;
 ghost use mathlib.Core.Path.{_≡_};
 ghost use mathlib.Core.List.{_++_};
@@ -18,7 +19,9 @@ ghost use Rattle.sheet.specs.inner.Lines.{Accepted};
 
 // What a page answers: a refusal with 0, or 0 with the page count.
 pub struct PageAnswer {
+    // 0 where the page is written.
     pub refusal: u32,
+    // How many pages there are.
     pub pages: usize,
 }
 
@@ -52,23 +55,23 @@ fn rows_fault(list: &[u32], n: usize, rows: usize) -> u32
     ensures { λ r. ⌜ r ≡ refuse 33 (badRows (now (list .entry)) n rows) ⌝ }
 {
     if n < Query::MIN_VERTICES {
-        return 33;
+        return Refusal::SHEET_ROWS;
     }
     if Query::MAX_VERTICES < n {
-        return 33;
+        return Refusal::SHEET_ROWS;
     }
     if PageAnswer::MAX_ROWS < rows {
-        return 33;
+        return Refusal::SHEET_ROWS;
     }
     let count = n * rows;
     if list.len() < count {
-        return 33;
+        return Refusal::SHEET_ROWS;
     }
     if RunAnswer::MAX_WORDS < count {
-        return 33;
+        return Refusal::SHEET_ROWS;
     }
     if large::any_large(&list[..count]) {
-        return 33;
+        return Refusal::SHEET_ROWS;
     }
     0
 }
@@ -128,13 +131,13 @@ pub fn page(list: &[u32], n: usize, rows: usize, page: usize, bytes: &mut [u8]) 
     }
     let pages = page_count(rows);
     if page < 1 {
-        return PageAnswer::refused(34);
+        return PageAnswer::refused(Refusal::SHEET_PAGE);
     }
     if pages < page {
-        return PageAnswer::refused(34);
+        return PageAnswer::refused(Refusal::SHEET_PAGE);
     }
     if bytes.len() < PageAnswer::BYTES {
-        return PageAnswer::refused(35);
+        return PageAnswer::refused(Refusal::SHEET_BYTES);
     }
     put_page(list, n, rows, page, pages, bytes);
     PageAnswer { refusal: 0, pages }

@@ -1,5 +1,6 @@
 // One word sought in a list by a hint of where it stands.
 use graph::Graph;
+use refusals::Refusal;
 use search::find;
 ghost use mathlib.Core.Path.{_≡_};
 ghost use mathlib.Core.Bool.{true};
@@ -32,7 +33,7 @@ pub fn hinted_fault(
     let hint = wide(hints[vertex]);
     let place = find(list, x, hint);
     if place == list.len() {
-        return 19;
+        return Refusal::STORE_DAMAGED;
     }
     if hint < list.len() {
         if hint != place {

@@ -6,6 +6,7 @@ pub mod hint;
 use crate::hint::hinted_fault;
 use adjacency::neighbours;
 use graph::Graph;
+use refusals::Refusal;
 ghost use mathlib.Core.Path.{_≡_};
 ghost use Prim.Native.Nat.{ℕ, suc, _+_, _-_, _%_, _≤_, _<_};
 ghost use lib.Dec.{eqb};
@@ -39,7 +40,7 @@ fn few_fault(list: &[u32], x: u32) -> u32
     ensures { λ r. ⌜ r ≡ unless (member x (now (list .entry))) ⌝ }
 {
     if list.len() == 0 {
-        return 19;
+        return Refusal::STORE_DAMAGED;
     }
     let end = list.len() - 1;
     let second = (0 < end) as usize;
@@ -49,7 +50,7 @@ fn few_fault(list: &[u32], x: u32) -> u32
         + is_at(list, third, x)
         + is_at(list, end, x);
     if found == 0 {
-        return 19;
+        return Refusal::STORE_DAMAGED;
     }
     0
 }

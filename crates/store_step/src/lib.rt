@@ -2,6 +2,7 @@
 // their neighbours' cursors. An answer is a refusal, 0, or `UNDECIDED`.
 use adjacency::neighbours;
 use graph::Graph;
+use refusals::Refusal;
 ghost use mathlib.Core.Path.{_≡_};
 ghost use mathlib.Core.Bool.{_&&_};
 ghost use Prim.Native.Nat.{ℕ, _+_, _≤_, _<_};
@@ -15,10 +16,11 @@ ghost use Rattle.store_step.specs.inner.Walk.{before, Refutes, Matched, 
 // It is not known whether the sides agree.
 pub const UNDECIDED: u32 = 1;
 
-// What is known of a vertex after its entries of a label: a refusal, 1 for undecided or 0; and the label of
-// its next entry, 0 for none.
+// What is known of a vertex after its entries of a label.
 pub struct Step {
+    // A refusal, 1 for undecided, or 0.
     pub fault: u32,
+    // The label of its next entry, 0 for none.
     pub label: u32,
 }
 
@@ -27,13 +29,13 @@ pub fn entry_fault(entry: u32, last: u32, n: usize) -> u32
     ensures { λ r. ⌜ r ≡ unless (entryFits n last entry) ⌝ }
 {
     if entry <= last {
-        return 19;
+        return Refusal::STORE_DAMAGED;
     }
     if Graph::ENTRY_END <= entry {
-        return 19;
+        return Refusal::STORE_DAMAGED;
     }
     if n <= (entry % Graph::SPAN) as usize {
-        return 19;
+        return Refusal::STORE_DAMAGED;
     }
     0
 }
