@@ -38,7 +38,7 @@ use Rattle.run_spec.proofs.Demand.{spelled, run-lists-every-match}
 use Rattle.plan_order.specs.Order.{scanEdge, scanned, extendsFrom, extendOrder, drawnOperators}
 use Rattle.planner.specs.Draw.{planBits, drawnPlan, drawFault, drawAnswer, drawBytes}
 use Rattle.plan_order.specs.inner.Counts.{Drawable}
-use Rattle.planner.specs.Complete.{planIn, PassesCheck, DrawnListsEveryMatch}
+use Rattle.planner.specs.Complete.{planIn, PassesCheck, DrawnThenRun}
 use Rattle.plan_order.proofs.Choosing.{choices}
 use Rattle.planner.proofs.Ordering.{count-ends, length-extends, extends-below, extends-pass}
 use Rattle.planner.proofs.Packing.{length-file, operators-read, file-sound}
@@ -191,7 +191,7 @@ passes-check store query bytes =
     }
 
 pub drawn-lists-every-match : (cache : Bool) (store query bytes : List ℕ) (scratch : ℕ) (list : List ℕ) (records : List Record)
-    → DrawnListsEveryMatch cache store query bytes scratch list records
+    → DrawnThenRun cache store query bytes scratch list records
 drawn-lists-every-match cache store query bytes scratch list records file loaded ok =
     let plan = drawnPlan (graphIn store) (queryOf query) in
     rw (drawn-bytes store query bytes ok)

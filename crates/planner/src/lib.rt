@@ -30,7 +30,7 @@ impl DrawAnswer {
 }
 
 // Draws the plan of a query that was read over an accepted store: 24, or the plan.
-fn draw_accepted(store: &[u32], q: Query, plan: &mut [u8]) -> DrawAnswer
+pub fn draw_accepted(store: &[u32], q: Query, plan: &mut [u8]) -> DrawAnswer
     requires { ⌜ Drawable q × (storeFault (now store) ≡ 0) ⌝ }
     ensures { λ r. ⌜ Drawn (graphIn (now (store .entry))) (queryIn q) (now (plan .entry)) (now (plan .exit))
         r ⌝ }

@@ -1,0 +1,2 @@
+-- What Find answers and leaves, by what decides.
+pub mod Answers

@@ -1,0 +1,3 @@
+-- Find: Draw plan, and then Run on what it drew.
+pub mod Find
+pub mod inner
