@@ -290,6 +290,58 @@ pub fn run(
     Ok(Run { rows: size(rows), cost, build, probe })
 }
 
+/// The length of a drawn plan in bytes, and what its run answered.
+#[derive(Clone, Copy, Debug, PartialEq, Eq)]
+pub struct Found {
+    /// The first so many of the lent bytes are the plan.
+    pub bytes: usize,
+    /// What a run of it answers.
+    pub run: Run,
+}
+
+/// Draws a plan for a query, as [`draw_plan_into`] does, and runs it, as [`run`] does, with one check of the store: [`MAX_DRAWN_BYTES`] are
+/// always enough for the plan.
+///
+/// What is answered and left is as by the two. Where no plan is drawn, nothing is touched but the scratch; where its run is refused, the plan
+/// stands in the bytes all the same.
+pub fn find(
+    store: &[u32],
+    query: &[u8],
+    plan: &mut [u8],
+    cache: Cache,
+    scratch: &mut [u32],
+    list: &mut [u32],
+    records: &mut [Record],
+) -> Result<Found, Refusal> {
+    let (mut bytes, mut rows, mut cost, mut build, mut probe) = (0, 0, 0, 0, 0);
+    // SAFETY: each pointer and length are those of one slice, and the numbers are locals. Plan, scratch, list and records are borrowed
+    // alone.
+    let number = unsafe {
+        sys::rizhavaan_find(
+            store.as_ptr(),
+            store.len(),
+            query.as_ptr(),
+            query.len(),
+            plan.as_mut_ptr(),
+            plan.len(),
+            cache == Cache::On,
+            scratch.as_mut_ptr(),
+            scratch.len(),
+            list.as_mut_ptr(),
+            list.len(),
+            records.as_mut_ptr(),
+            records.len(),
+            &mut bytes,
+            &mut rows,
+            &mut cost,
+            &mut build,
+            &mut probe,
+        )
+    };
+    accepted(number)?;
+    Ok(Found { bytes: size(bytes), run: Run { rows: size(rows), cost, build, probe } })
+}
+
 /// Fills one page of the rows of a list, `n` words a row, as text, in bytes that the caller lends: [`PAGE_BYTES`] or more. Answers the
 /// page count. The first page is 1.
 ///

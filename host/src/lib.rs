@@ -57,7 +57,8 @@
 //!
 //! A [`Store`] owns the words of a graph. A run needs scratch, a list for its rows, and a record for each operator. [`run`] and
 //! [`Store::run`] borrow them from the caller and refuse a run for which they are too short; [`Store::run_growing`] counts the rows first,
-//! makes a list that they fit, and has records for the longest plan. [`Store::count`] counts them and lists none.
+//! makes a list that they fit, and has records for the longest plan. [`Store::count`] counts them and lists none. [`find`] and
+//! [`Store::find`] draw the plan that they run, which [`Store::run_drawn`] does in buffers that grow: the store is checked once and not twice.
 //! The scratch is zero after every run, refused ones too. It does not hold the rows: but for a join's build side, a run needs little of it,
 //! whatever it lists.
 
@@ -76,9 +77,9 @@ mod store;
 pub mod sys;
 
 pub use engine::{
-    apply_changes_into, bounds, check_plan, count, draw_plan_into, load_into, orderings_into, page_into, run, Bounds,
-    Cache, Count, Loaded, Run, MAX_DRAWN_BYTES, MAX_OPERATORS, MAX_ORDERING_VERTICES, MAX_ORDERING_WORDS, MAX_WORDS,
-    PAGE_BYTES,
+    apply_changes_into, bounds, check_plan, count, draw_plan_into, find, load_into, orderings_into, page_into, run,
+    Bounds, Cache, Count, Found, Loaded, Run, MAX_DRAWN_BYTES, MAX_OPERATORS, MAX_ORDERING_VERTICES,
+    MAX_ORDERING_WORDS, MAX_WORDS, PAGE_BYTES,
 };
 pub use operator::{operators, Operator, Work};
 pub use orderings::{PlanOrder, PlanOrders};

@@ -1,6 +1,6 @@
 //! A store that owns its words, and buffers that grow.
 use crate::operator::Operators;
-use crate::{apply_changes_into, bounds, count, draw_plan_into, load_into, run};
+use crate::{apply_changes_into, bounds, count, draw_plan_into, find, load_into, run};
 use crate::{Bounds, Cache, Count, Record, Refusal, Run, Work, MAX_DRAWN_BYTES, MAX_OPERATORS, MAX_WORDS};
 
 /// A loaded graph: the words that the engine reads.
@@ -110,12 +110,42 @@ impl Store {
         self.count_growing(query, plan, cache, &mut buffers.scratch)
     }
 
-    /// Runs a query by a plan that is drawn for it, in buffers that grow, as [`Store::run_growing`] does.
+    /// Runs a query by a plan that is drawn for it, in buffers that grow, as [`Store::run_growing`] does. Where they are long enough, plan and
+    /// run are made in one call, which checks the store once; buffers of no words begin at 16,384.
     pub fn run_drawn<'b>(&self, query: &[u8], cache: Cache, buffers: &'b mut Buffers) -> Result<Matches<'b>, Refusal> {
-        buffers.plan = self.draw_plan(query)?;
         let Buffers { scratch, list, records, plan } = buffers;
-        let answer = self.run_until_it_fits(query, plan, cache, scratch, list, records)?;
+        if scratch.is_empty() {
+            at_least(scratch, FIRST_WORDS);
+            at_least(list, FIRST_WORDS);
+        }
+        plan.resize(MAX_DRAWN_BYTES, 0);
+        let answer = match find(&self.words, query, plan, cache, scratch, list, records) {
+            Ok(found) => {
+                plan.truncate(found.bytes);
+                found.run
+            }
+            Err(Refusal::ScratchSmall | Refusal::ListSmall) => {
+                plan.truncate(drawn_bytes(query));
+                self.run_until_it_fits(query, plan, cache, scratch, list, records)?
+            }
+            Err(refusal) => return Err(refusal),
+        };
         Ok(Matches::new(query, plan, answer, list, records))
+    }
+
+    /// Draws a plan in bytes of the caller's, of which [`MAX_DRAWN_BYTES`] are always enough, and runs it in scratch, list and records of the
+    /// caller's, as [`Store::run`] does.
+    pub fn find<'l>(
+        &self,
+        query: &[u8],
+        plan: &'l mut [u8],
+        cache: Cache,
+        scratch: &mut [u32],
+        list: &'l mut [u32],
+        records: &'l mut [Record],
+    ) -> Result<Matches<'l>, Refusal> {
+        let found = find(&self.words, query, plan, cache, scratch, list, records)?;
+        Ok(Matches::new(query, &plan[..found.bytes], found.run, list, records))
     }
 
     /// Runs a plan in scratch, list and records of the caller's, whose lengths decide whether it is refused.
@@ -208,6 +238,14 @@ impl Store {
 fn width(query: &[u8]) -> usize {
     usize::from(query[0] >> 4)
 }
+
+/// How many bytes a drawn plan has: a count of 5 bits, a scan of 7, and 5 for each of the other vertices.
+fn drawn_bytes(query: &[u8]) -> usize {
+    (12 + 5 * (width(query) - 2)).div_ceil(8)
+}
+
+/// Words of scratch and of list that a drawn plan is first run in, where there are none.
+const FIRST_WORDS: usize = 1 << 14;
 
 /// What a run is bounded by is set aside at once where it is little.
 const LITTLE: u64 = 1 << 20;

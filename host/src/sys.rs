@@ -146,6 +146,31 @@ extern "C" {
         probe: *mut u64,
     ) -> u32;
 
+    /// Find. See `rizhavaan.h`.
+    ///
+    /// # Safety
+    /// As for [`rizhavaan_load`].
+    pub fn rizhavaan_find(
+        store: *const u32,
+        store_len: usize,
+        query: *const u8,
+        query_len: usize,
+        plan: *mut u8,
+        plan_len: usize,
+        cache: bool,
+        scratch: *mut u32,
+        scratch_len: usize,
+        list: *mut u32,
+        list_len: usize,
+        records: *mut Record,
+        records_len: usize,
+        bytes: *mut u64,
+        rows: *mut u64,
+        cost: *mut u64,
+        build: *mut u64,
+        probe: *mut u64,
+    ) -> u32;
+
     /// Page. See `rizhavaan.h`.
     ///
     /// # Safety

@@ -1,5 +1,5 @@
-/* Subgraph matching: load a packed graph or change a loaded one, check or draw a plan or list all orderings, run it, print
- * its rows.
+/* Subgraph matching: load a packed graph or change a loaded one, check or draw a plan or list all orderings, run it or draw
+ * and run in one call, print its rows.
  * Link librizhavaan.a.
  *
  * Every function returns 0, or the number of a refusal (below). After a refusal every number that a pointer
@@ -229,6 +229,24 @@ uint32_t rizhavaan_run(const uint32_t *store, size_t store_len,
                        uint32_t *list, size_t list_len,
                        struct rizhavaan_record *records, size_t records_len,
                        uint64_t *rows, uint64_t *cost, uint64_t *build, uint64_t *probe);
+
+/* Draws a plan for a query over a store and runs it: rizhavaan_draw_plan and then rizhavaan_run on what it drew, with one
+ * check of the store and not two, which is most of the time of a pattern that has few rows. Gives the plan's length in
+ * bytes, at most RIZHAVAAN_MAX_DRAWN_BYTES, and the numbers of the run. Refusals 6 to 11, 19 to 22, 24 to 26 and 30: those
+ * of rizhavaan_draw_plan, then 22, 20, 30 and 21.
+ *
+ * Plan, scratch, list and records are left as by the two calls: where the run is refused, the first bytes of `plan` are the
+ * drawn plan all the same, though its length is given as 0. It has 5 n + 2 bits, and rizhavaan_count or rizhavaan_run takes
+ * it as it stands. */
+uint32_t rizhavaan_find(const uint32_t *store, size_t store_len,
+                        const uint8_t *query, size_t query_len,
+                        uint8_t *plan, size_t plan_len,
+                        bool cache,
+                        uint32_t *scratch, size_t scratch_len,
+                        uint32_t *list, size_t list_len,
+                        struct rizhavaan_record *records, size_t records_len,
+                        uint64_t *bytes,
+                        uint64_t *rows, uint64_t *cost, uint64_t *build, uint64_t *probe);
 
 /* Fills one page of the rows of a list, n words a row, as text, and gives the page count. Refusals 33 to 35, in
  * this order.

@@ -7,37 +7,37 @@ use rizhavaan::Record;
 const GUARD: usize = 12;
 
 /// Contents between guards of arbitrary values.
-struct Lent<T> {
+pub(super) struct Lent<T> {
     all: Vec<T>,
     before: Vec<T>,
 }
 
 impl<T: Copy + PartialEq + std::fmt::Debug> Lent<T> {
-    fn new(contents: &[T], mut guard: impl FnMut() -> T) -> Lent<T> {
+    pub(super) fn new(contents: &[T], mut guard: impl FnMut() -> T) -> Lent<T> {
         let mut all: Vec<T> = (0..GUARD).map(|_| guard()).collect();
         all.extend_from_slice(contents);
         all.extend((0..GUARD).map(|_| guard()));
         Lent { before: all.clone(), all }
     }
 
-    fn len(&self) -> usize {
+    pub(super) fn len(&self) -> usize {
         self.all.len() - 2 * GUARD
     }
 
-    fn pointer(&self) -> *const T {
+    pub(super) fn pointer(&self) -> *const T {
         self.all[GUARD..].as_ptr()
     }
 
-    fn pointer_mut(&mut self) -> *mut T {
+    pub(super) fn pointer_mut(&mut self) -> *mut T {
         self.all[GUARD..].as_mut_ptr()
     }
 
-    fn assert_untouched(&self, what: &str) {
+    pub(super) fn assert_untouched(&self, what: &str) {
         assert_eq!(self.all, self.before, "{what} is changed");
     }
 
     /// The contents after the call; nothing around them is changed.
-    fn contents(self, what: &str) -> Vec<T> {
+    pub(super) fn contents(self, what: &str) -> Vec<T> {
         let end = GUARD + self.len();
         assert_eq!(self.all[..GUARD], self.before[..GUARD], "words before the {what} are changed");
         assert_eq!(self.all[end..], self.before[end..], "words after the {what} are changed");
@@ -45,30 +45,30 @@ impl<T: Copy + PartialEq + std::fmt::Debug> Lent<T> {
     }
 }
 
-fn bytes(r: &Random, contents: &[u8]) -> Lent<u8> {
+pub(super) fn bytes(r: &Random, contents: &[u8]) -> Lent<u8> {
     Lent::new(contents, || r.next() as u8)
 }
 
-fn words(r: &Random, contents: &[u32]) -> Lent<u32> {
+pub(super) fn words(r: &Random, contents: &[u32]) -> Lent<u32> {
     Lent::new(contents, || r.next() as u32)
 }
 
 /// The numbers that a call gives, each with arbitrary numbers before it and around it.
-struct Numbers<const N: usize>(Lent<u64>);
+pub(super) struct Numbers<const N: usize>(Lent<u64>);
 
 impl<const N: usize> Numbers<N> {
-    fn new(r: &Random) -> Self {
+    pub(super) fn new(r: &Random) -> Self {
         let before: Vec<u64> = (0..N).map(|_| r.next()).collect();
         Numbers(Lent::new(&before, || r.next()))
     }
 
-    fn pointers(&mut self) -> [*mut u64; N] {
+    pub(super) fn pointers(&mut self) -> [*mut u64; N] {
         let first = self.0.pointer_mut();
         // SAFETY: the contents are N numbers.
         std::array::from_fn(|i| unsafe { first.add(i) })
     }
 
-    fn after(self, refusal: u32) -> [u64; N] {
+    pub(super) fn after(self, refusal: u32) -> [u64; N] {
         let numbers: [u64; N] = self.0.contents("numbers").try_into().unwrap();
         assert!(refusal == 0 || numbers == [0; N], "refused with {refusal}, and the numbers are {numbers:?}");
         numbers

@@ -9,6 +9,7 @@ pub mod cases;
 pub mod changes;
 pub mod compare;
 pub mod drawn;
+pub mod found;
 pub mod graph;
 pub mod hangs;
 pub mod in_words;
