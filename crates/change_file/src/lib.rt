@@ -1,5 +1,6 @@
-// The change file: a count (20 bits), then for each change a bit (1 add, 0 take away), a source (16), a label
-// (8) and a target (16).
+// The change file, what it is and how it is read: a count (20 bits), then for each change a bit (1 add, 0
+// take away), a source (16), a label (8) and a target (16); and refusal 27 (document 02, request 8). What
+// changes do to a graph stands in `changes`.
 ghost use mathlib.Core.Path.{_≡_};
 ghost use mathlib.Core.Bool.{not};
 ghost use Prim.Native.Nat.{suc, _+_, _*_, _≤_, _<_};

@@ -1,6 +1,7 @@
-// Merging the lists of a side of the old store with the changes: what is in one of the two alone stays. The
-// changes come by their keys, ascending: in a slice, or where that is empty as the file has them, which is
-// the order of the forward side.
+// Merging the lists of a side of the old store with the changes: what is in one of the two alone stays
+// (document 02, request 8). The changes come by their keys, ascending: in a slice, or where that is empty
+// as the file has them, which is the order of the forward side. Refusals and the whole store are
+// `changes`; a backward side with too many changes is made by `store_transpose`.
 pub mod backward;
 
 ghost use mathlib.Core.Path.{_≡_};

@@ -1,4 +1,6 @@
-// Changes to a graph: from an old store and a change file, the store of the edited graph.
+// The operation Apply changes: from an old store and a change file, the store of the edited graph, and
+// refusals 27 to 29 (document 02, request 8). `specs/` has the edited graph, the answer, and what is
+// claimed of both; one side is merged in `change_merge`, the file is read in `change_file`.
 ghost use mathlib.Core.Path.{_≡_};
 ghost use Prim.Native.Nat.{suc, _+_, _*_, _≤_, _<_};
 ghost use lib.ListN.{length};

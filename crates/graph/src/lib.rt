@@ -1,4 +1,7 @@
-// The graph: `specs/` has its file and its store.
+// What a graph, its file and its store are (document 01, 'The three packed files' and 'The store';
+// document 02, request 6), with refusals 1 to 5 and 19 as definitions in `specs/`, and the limits and
+// places of a store as constants here. No file is read here: that is `graph_file`; `load` writes a store,
+// `adjacency` reads it.
 ghost use mathlib.Core.Path.{_≡_};
 ghost use Prim.Native.Nat.{_+_, _≤_};
 ghost use lib.ListN.{length, getD};

@@ -1,5 +1,6 @@
-// The graph file: N (16 bits), M (20), N vertices of label (16) and day (16), then M edges of source (16),
-// label (8), target (16); and its faults.
+// The graph file read: N (16 bits), M (20), N vertices of label (16) and day (16), then M edges of source
+// (16), label (8), target (16); and its faults, 1 to 5 (document 01, 'The three packed files'). What they
+// mean stands in `graph`; the store is written by `load`.
 ghost use mathlib.Core.Path.{_≡_};
 ghost use Prim.Native.Nat.{suc, _+_, _*_, _≤_, _<_};
 ghost use lib.ListN.{length};

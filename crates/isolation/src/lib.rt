@@ -1,2 +1,2 @@
-// Non-interference: what another company hangs cannot be seen in any answer. This crate has no code, only the
-// claim in specs/ and its theorem in proofs/.
+// Non-interference: what another company hangs cannot be seen in any answer (document 02, request 14). No
+// code: the claim in `specs/`, of the definitions that the contracts name, and its theorem in `proofs/`.

@@ -1,6 +1,7 @@
-// The judge: random graphs, queries and plans through the engine's operations, compared with a matcher that
-// tries assignments. It shares no code with the engine. It prints how often each kind of result was compared
-// and how often it differed.
+// The judge, a program of the tests: random graphs, queries and plans through the engine's operations,
+// compared with a matcher that tries assignments (document 01, 'Agreement' and the cases that are not
+// starred). It shares no code with the engine. It prints how often each kind of result was compared and
+// how often it differed.
 mod compare;
 mod counts;
 mod others;

@@ -1,4 +1,6 @@
-// Run for callers that hold the records in an array: it lends them as the slice that Run takes.
+// Run for callers in the language that hold the records in an array: it lends them as the slice that Run
+// takes (document 02, request 4). `trace` and `judge` call it; from C and Rust Run is called by
+// `rizhavaan`.
 use plan::Plan;
 use run::run;
 use run_spec::Record;

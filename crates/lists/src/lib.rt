@@ -1,1 +1,4 @@
-// The vocabulary of the definitions: this crate has no code, only specs/ and the laws in proofs/.
+// The words that all definitions are written in: ranges, tests, counts, sorting (`specs/Lists.antt`), and
+// the first fault of a list, which is how document 01's 'Operations and their refusals' is said
+// (`specs/Refusal.antt`). Definitions and their laws alone, no code: slices of words are `words`,
+// searching them is `search`.

@@ -1,5 +1,6 @@
-// Load: the graph file's faults, and the store of sorted labelled neighbour lists that an accepted file is
-// loaded to.
+// The operation Load: the graph file's faults, and the store of sorted labelled neighbour lists that an
+// accepted file is loaded to (document 01, 'The store'; 000, section 7). The file's fields are read by
+// `graph_file`; what a store is, `graph` says.
 ghost use mathlib.Core.Path.{_≡_};
 ghost use lib.ListN.{length};
 ghost use Rattle.graph.specs.Store.{loadStore};

@@ -1,4 +1,7 @@
-// The packed files' field reader and writer. `specs/Field.antt` says what a field is, `proofs/` has the laws.
+// Bit-packed fields of any width up to 25 bits, read, and written by `put` (document 01, 'The three packed
+// files'). Which fields a file has is said in `graph`, `query`, `plan` and `change_file`.
+// `specs/Field.antt` says what a field is, `specs/Encode.antt` how numbers become bytes; `proofs/` has the
+// laws, for any width.
 mod put;
 
 pub use put::put_field;

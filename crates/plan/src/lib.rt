@@ -1,5 +1,7 @@
-// The plan: operators in postfix order over a pile of results. `specs/` says what a plan file holds and when
-// it is refused, `proofs/` has the laws; `plan_file` reads and checks one.
+// What a plan is: operators in postfix order over a pile of results (document 01, 'What each operator
+// means'; 000, section 4.1). `specs/` says what a plan file holds and when it is refused, `proofs/` has
+// the laws; here is the plan as a struct. `plan_file` reads and checks one, `planner` draws one,
+// `executor` runs one.
 use query::Edge;
 use query::set;
 ghost use mathlib.Core.Path.{_≡_};

@@ -1,6 +1,7 @@
-// Bounds of a plan without a run: from a store, a query and a plan to the words of list and scratch to set
-// aside, the cost and the largest number of rows of any operator, none of which a run passes. `specs/` says
-// what they are and what is promised of a run, `proofs/` that it is so.
+// The operation Bounds: from a store, a query and a plan, without a run, to the words of list and scratch
+// to set aside, the cost and the largest number of rows of any operator, none of which a run passes
+// (document 02, request 11). `specs/` says what they are and what is promised of a run, `proofs/` that it
+// is so. What a run does need is `run_spec`'s, and counted by `count`.
 mod capped;
 mod longest;
 mod pile;

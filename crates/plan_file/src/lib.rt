@@ -1,4 +1,6 @@
-// The plan file: its operators read, and Check plan.
+// The operation Check plan, refusals 12 to 18: the operators of a plan file read, and its rules tested
+// over the pile of covered sets (document 01, 'Operations and their refusals'). What the rules are stands
+// in `plan`.
 use plan::CheckedPlan;
 use plan::Plan;
 ghost use mathlib.Core.Path.{_≡_};

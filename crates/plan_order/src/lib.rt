@@ -1,5 +1,7 @@
-// The ordering: the scan's edge by the data edges of each label, then one vertex after the other by its query
-// edges to the covered ones.
+// Which ordering is drawn for a query: the scan's edge by the data edges of each label, then one vertex
+// after the other by its query edges to the covered ones (document 02, request 5; 000's query vertex
+// orderings, section 3). The bytes of the drawn plan are `planner`'s; all orderings with their costs are
+// `plan_spectrum`.
 use graph::Graph;
 use query::Edge;
 use query::Query;

@@ -1,6 +1,7 @@
-// All orderings of a small pattern: every accepted plan of one scan and extends, with its cost. They are
+// The operation All orderings of a small pattern: every accepted plan of one scan and extends, with its
+// cost, and refusals 31 and 32 (document 02, request 12; 000's plan spectrum, section 8.2). They are
 // listed first; then each is run once, its rows counted and not written; and when none is refused, the
-// entries are written.
+// entries are written. The one ordering that the engine draws is `plan_order`'s.
 mod listing;
 mod writing;
 

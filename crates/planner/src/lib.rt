@@ -1,5 +1,6 @@
-// Drawing a plan: from a store and a query to a packed plan of one scan and n - 2 extends. `specs/` says
-// which plan it is and when it is refused, `proofs/` that it passes the plan check.
+// The operation Draw plan: from a store and a query to a packed plan of one scan and n - 2 extends, and
+// refusal 24 (document 02, requests 5 and 9). `specs/` says which bytes these are and when it is refused,
+// `proofs/` that they pass the plan check. Which vertex comes next is decided in `plan_order`.
 mod pack;
 
 use query::Query;

@@ -1,5 +1,7 @@
-// The query: a small labelled graph whose vertices are to be matched. `specs/` says what a query file holds
-// and when it is refused, `proofs/` has the laws; `query_file` reads one.
+// What a query is: a small labelled graph whose vertices are to be matched (document 01, 'The three packed
+// files'; 000, section 2; document 02, requests 6 and 7). `specs/` says what a query file holds and when
+// it is refused, `proofs/` has the laws; here are the query as a struct and sets of its vertices.
+// `query_file` reads a file; what a match is stands in `matching`.
 use graph::Graph;
 use refusals::Refusal;
 ghost use mathlib.Core.Path.{_≡_};

@@ -1,5 +1,7 @@
-// The query file: n (4 bits), m (5), n vertices of label (16), first day (16), last day (16), then m edges of
-// from (3), to (3), label (8), then a pair count (4) and pairs of low (3), high (3); and Read query.
+// The operation Read query, refusals 6 to 11, 25 and 26 (document 01, 'Operations and their refusals'): n
+// (4 bits), m (5), n vertices of label (16), first day (16), last day (16), then m edges of from (3), to
+// (3), label (8), then a pair count (4) and pairs of low (3), high (3). What the fields mean stands in
+// `query`.
 use packed::field;
 use query::Query;
 use query::ReadQuery;

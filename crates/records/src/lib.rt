@@ -1,4 +1,6 @@
-// The records of a run: kept by value while it runs, stored in the lent ones when it is accepted.
+// The records of a run, one an operator: kept by value while it runs, stored in the lent ones when it is
+// accepted (document 02, request 4; document 01, 'Where each language form goes': the thin function). What
+// stands in them comes from `totals`.
 use plan::Plan;
 use run_spec::Record;
 use run_spec::RunAnswer;

@@ -1,6 +1,10 @@
-// Reverses where lists are short, as those of a rig are: all entries of a side in turn, with no loop for each
-// list, whose end a processor hints wrong more often than not. The vertex of an entry is one less than how
-// many lists begin at it or before it, and that is counted for a block of entries at a time.
+// Whether each entry of a store has its reverse entry on the other side, where lists are short, as those
+// of a rig are, and the predicates of the whole check of 19 (document 01, 'Operations and their refusals',
+// Run). Where labels are few `store_walk` decides instead, and `store_check` is the whole.
+//
+// All entries of a side are taken in turn, with no loop for each list, whose end a processor guesses wrong
+// more often than not. The vertex of an entry is one less than how many lists begin at it or before it,
+// and that is counted for a block of entries at a time.
 pub mod hint;
 
 use crate::hint::hinted_fault;

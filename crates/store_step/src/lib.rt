@@ -1,5 +1,6 @@
-// A step of the walk over a store's entries: those of one vertex and one label are held against the words at
-// their neighbours' cursors. An answer is a refusal, 0, or `UNDECIDED`.
+// One step of the walk over a store's entries: those of one vertex and one label are held against the
+// words at their neighbours' cursors. The walk itself is `store_walk`; both are a part of 19 (document 01,
+// 'Operations and their refusals', Run). An answer is a refusal, 0, or `UNDECIDED`.
 use adjacency::neighbours;
 use graph::Graph;
 use refusals::Refusal;

@@ -1,6 +1,7 @@
-// Whether the sides of a store agree, with no search, where there are few labels: the entries are walked by
-// ascending (label, vertex), so that those which lead to a vertex arrive in the order of its list on the
-// other side, and a cursor for each vertex tells the next. An answer of 0 or 19 is the store check's;
+// Whether the sides of a store agree, with no search, where there are few labels: the entries are walked
+// by ascending (label, vertex), so that those which lead to a vertex arrive in the order of its list on
+// the other side, and a cursor for each vertex tells the next. A step of it is `store_step`. It is a part
+// of 19 (document 01, 'Operations and their refusals', Run): an answer of 0 or 19 is the store check's;
 // `UNDECIDED` leaves it to a search.
 pub mod passes;
 

@@ -1,4 +1,6 @@
-// Parts of lent words: cleared, copied, moved.
+// Parts of lent words cleared, copied and moved, for the crates that write a store, a scratch or a word
+// list. What is in the words is not its matter. Run's scratch is cleared by it (document 01, 'Cost and
+// scratch').
 ghost use mathlib.Core.Path.{_≡_};
 ghost use mathlib.Core.List.{_++_};
 ghost use Prim.Native.Nat.{_+_, _-_, _≤_, _<_};
