@@ -38,7 +38,7 @@ fn shown(text: &str) -> Vec<(String, String)> {
 fn the_documents() {
     let top = Path::new(env!("CARGO_MANIFEST_DIR")).join("..");
     let mut count = 0;
-    for name in ["README.md", "docs/EXAMPLES.md", "examples/stage-rig/README.md"] {
+    for name in ["README.md", "GUIDE.md", "examples/stage-rig/README.md"] {
         for (command, expected) in shown(&fs::read_to_string(top.join(name)).unwrap()) {
             let arguments: Vec<&str> = command.split_whitespace().take_while(|word| *word != "#").collect();
             let (_, out, err) = run(&top, &arguments);
