@@ -1,4 +1,4 @@
--- What is merged and mirrored is the edited graph's store. Assumes nothing.
+-- What is merged and transposed is the edited graph's store. Assumes nothing.
 use mathlib.Core.Path.{_≡_, refl, sym, _∙_, ap, ap₂}
 use mathlib.Core.Bool.{Bool, true, false}
 use mathlib.Core.List.{List, [], _∷_, _++_, map, append-assoc}
@@ -22,7 +22,7 @@ use Rattle.graph.proofs.Keys.{sortedKeys}
 use Rattle.graph.proofs.Parts.{length-offsets, length-entries, store-shape}
 use Rattle.adjacency.specs.inner.Side.{sideIn, verticesIn, edgesIn}
 use Rattle.adjacency.proofs.Accepted.{graph-formed, store-vertices, store-edges, store-length}
-use Rattle.store_transpose.specs.inner.Transpose.{ForwardSide, Mirrorable, Mirrored}
+use Rattle.store_transpose.specs.inner.Transpose.{ForwardSide, Transposable, Transposed}
 use Rattle.change_file.specs.File.{changeCount, changedEdge, changesOf, changeFault}
 use Rattle.changes.specs.Edit.{changeKey, applyChanges, editFault, editedGraph}
 use Rattle.change_merge.specs.inner.Toggle.{toggled}
@@ -158,8 +158,8 @@ module _ {old : List ℕ} {n : ℕ} {s : List ℕ} {k : ℕ} (h : Accepted old n
           words = ap (take (n + 1 + m)) a ∙ take-at (wordsOn forward (editedGraph old s)) (drop (suc n + length (editedGraph old s .edges)) side) (n + 1 + m) (forward-size ∙ sym place);
         }
 
-    pub one-mirrorable : Mirrorable one n m
-    one-mirrorable = record { graph = editedGraph old s; its = one-forward; room = omega (arith, one-long) }
+    pub one-transposable : Transposable one n m
+    one-transposable = record { graph = editedGraph old s; its = one-forward; room = omega (arith, one-long) }
 
     one-rest : drop (n + 1 + m + (n + 1 + m)) one ≡ drop (n + 1 + m + (n + 1 + m)) side
     one-rest =
@@ -167,7 +167,7 @@ module _ {old : List ℕ} {n : ℕ} {s : List ℕ} {k : ℕ} (h : Accepted old n
         ∙ ap (drop (n + 1 + m)) (ap (drop (n + 1 + m)) a ∙ drop-at (wordsOn forward (editedGraph old s)) (drop (suc n + length (editedGraph old s .edges)) side) (n + 1 + m) (forward-size ∙ sym place) ∙ ap (λ (p : ℕ). drop p side) (sym place))
         ∙ drop-drop (n + 1 + m) (n + 1 + m) side
 
-    pub sides-made : {two three : List ℕ} → Mirrored one n m two → three ≡ wordsOn forward (editedGraph old s) ++ drop (suc n + length (editedGraph old s .edges)) two
+    pub sides-made : {two three : List ℕ} → Transposed one n m two → three ≡ wordsOn forward (editedGraph old s) ++ drop (suc n + length (editedGraph old s .edges)) two
         → three ≡ sidesOf (editedGraph old s) ++ drop (n + 1 + m + (n + 1 + m)) side
     sides-made {two} {three} b c =
         c ∙ ap (λ (l : List ℕ). wordsOn forward (editedGraph old s) ++ l) (ap (λ (p : ℕ). drop p two) (sym place) ∙ b .back (editedGraph old s) one-forward ∙ ap (λ (l : List ℕ). offsets backward (editedGraph old s) ++ (entries backward (editedGraph old s) ++ l)) one-rest)

@@ -15,24 +15,24 @@ use refusals::Refusal;
 use search::lower_bound;
 use search::walk_up;
 
-// The first index of an ascending list whose word is not below x: word by word from the guess on, where the
+// The first index of an ascending list whose word is not below x: word by word from the hint on, where the
 // word before it is below x, else by a search. Changes of one vertex ascend, so that the place of one is a
-// guess for the next, and all of them together walk a list once. Any guess will do. (`search::seek` would do
+// hint for the next, and all of them together walk a list once. Any hint will do. (`search::seek` would do
 // for both, but a second caller takes it out of the walk along two lists.)
-fn place(list: &[u32], x: u32, guess: usize) -> usize
+fn place(list: &[u32], x: u32, hint: usize) -> usize
     requires { ⌜ ascending (now list) ≡ true ⌝ }
     ensures { λ r. ⌜ r ≡ firstFrom (now (list .entry)) 0 x ⌝ }
 {
-    if guess == 0 {
+    if hint == 0 {
         return lower_bound(list, x);
     }
-    if list.len() < guess {
+    if list.len() < hint {
         return lower_bound(list, x);
     }
-    if x <= list[guess - 1] {
+    if x <= list[hint - 1] {
         return lower_bound(list, x);
     }
-    walk_up(list, guess, x)
+    walk_up(list, hint, x)
 }
 
 // 1 where x stands at its place in an ascending list, else 0.
@@ -55,13 +55,13 @@ pub fn edits_fault(old: &[u32], n: usize, at: usize, file: &[u8], k: usize) -> u
     requires { ⌜ Editable (now old) n at (now file) k ⌝ }
     ensures { λ r. ⌜ r ≡ editFault (graphIn (now (old .entry))) (changesOf (now (file .entry))) ⌝ }
 {
-    let mut guess = 0;
+    let mut hint = 0;
     let mut i = 0;
     while i < k {
         let list = neighbours(old, n, at, change_file::source(file, i) as usize);
         let e = change_file::forward_entry(file, i);
-        guess = place(list, e, guess);
-        if stands(list, e, guess) == change_file::adds(file, i) {
+        hint = place(list, e, hint);
+        if stands(list, e, hint) == change_file::adds(file, i) {
             return Refusal::CHANGES_EDGE;
         }
         i += 1;

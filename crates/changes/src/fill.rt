@@ -53,7 +53,7 @@ fn merged_sides(old: &[u32], n: usize, file: &[u8], k: usize, m: usize, side: &m
 }
 
 // The backward side made from the forward one.
-fn mirrored_sides(old: &[u32], n: usize, file: &[u8], k: usize, m: usize, side: &mut [u32])
+fn transposed_sides(old: &[u32], n: usize, file: &[u8], k: usize, m: usize, side: &mut [u32])
     requires { ⌜ Accepted (now old) n (now file) k × (m ≡ length (editedGraph (now old) (now file) .edges))
         × (n + 1 + m + (n + 1 + m) ≤ length (now side)) ⌝ }
     ensures { λ _. ⌜ now (side .exit) ≡ sidesOf (editedGraph (now (old .entry)) (now (file .entry)))
@@ -74,7 +74,7 @@ fn sides(old: &[u32], n: usize, file: &[u8], k: usize, m: usize, side: &mut [u32
     if k * k <= m {
         merged_sides(old, n, file, k, m, side);
     } else {
-        mirrored_sides(old, n, file, k, m, side);
+        transposed_sides(old, n, file, k, m, side);
     }
 }
 

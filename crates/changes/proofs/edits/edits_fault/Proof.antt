@@ -8,10 +8,10 @@ use Rattle.changes.proofs.edits.edits_fault.Statement.{statement}
 use Rattle.changes.proofs.edits.edits_fault.Tie as tie
 
 abbrev Inv-loop : tie.InvT-loop
-Inv-loop old n at file k guess₀ i₀ guess i = (i ≤ k) × Applying (graphIn old) file i
+Inv-loop old n at file k hint₀ i₀ hint i = (i ≤ k) × Applying (graphIn old) file i
 
 abbrev μ-loop : tie.MeasureT-loop
-μ-loop old n at file k guess₀ i₀ guess i = k - i
+μ-loop old n at file k hint₀ i₀ hint i = k - i
 
 loop-holds : tie.Need-loop-holds Inv-loop μ-loop
 loop-holds c = (search needs, applying-none _ _)

@@ -42,8 +42,8 @@ returns-4 c =
     let a = c .before .before .before .before .before .before .args in
     let up = c .before .before .before .before .before .before .pre in
     c .walk-up .ensures
-    ∙ first-on (a .list .now) up 0 (a .guess) (a .x) (omega arith)
-    (omega (arith, below-first (a .list .now) up 0 (a .x) (a .guess - 1) (omega arith) (omega arith) (omega arith))) (omega arith)
+    ∙ first-on (a .list .now) up 0 (a .hint) (a .x) (omega arith)
+    (omega (arith, below-first (a .list .now) up 0 (a .x) (a .hint - 1) (omega arith) (omega arith) (omega arith))) (omega arith)
 
 pub place-spec : {M : Type 1} → statement M
 place-spec =

@@ -12,8 +12,8 @@ mul-if1 c = omega (arith, square-fits (c .before .before .before .args .k) (omeg
 merged-sides-requires : tie.Need-merged-sides-requires
 merged-sides-requires c κs = (c .before .before .before .before .before .pre .0, c .before .before .before .before .before .pre .1, few-changes (c .before .before .before .before .before .args .k) (c .before .if1 .taken) (omega (arith, c .before .before .before .before .before .pre .0 .few, c .before .before .before .before .before .pre .1)), c .before .before .before .before .before .pre .2)
 
-mirrored-sides-requires : tie.Need-mirrored-sides-requires
-mirrored-sides-requires c κs = search needs
+transposed-sides-requires : tie.Need-transposed-sides-requires
+transposed-sides-requires c κs = search needs
 
 same-length : tie.Need-same-length
 same-length c = search needs
@@ -33,7 +33,7 @@ sides-spec =
     (tie.spec
     mul-if1
     merged-sides-requires
-    mirrored-sides-requires
+    transposed-sides-requires
     same-length
     returns
     same-length-2
