@@ -27,6 +27,7 @@ use Rattle.plan_spectrum.specs.Spectrum.{maxSpectrum, entries, limitFault, orde
 use Rattle.isolation.specs.Others.{TwoCompanies}
 use Rattle.isolation.specs.inner.Readings.{SameReadings}
 use Rattle.isolation.specs.CannotSee.{AfterRun, afterRun, AfterDraw, afterDraw, AfterOrderings, afterOrderings, CannotSee, NonInterference}
+use Rattle.isolation.proofs.Found.{same-find}
 use Rattle.isolation.proofs.Own.{own, own-readings}
 use Rattle.isolation.proofs.Listed.{one-list}
 use Rattle.isolation.proofs.Plans.{SamePlan, same-plan}
@@ -112,25 +113,36 @@ module _ (query : List ℕ) (refused : queryFault query ≡ 0 → ⊥) where
     unfolding orderingsWords
     words-refused words = rw (orderings-refused (length words), given)
 
+  refused-run : (one two : List ℕ) (cache : Bool) (plan scratch list : List ℕ) (records : List Record)
+      → afterRun cache one query plan scratch list records ≡ afterRun cache two query plan scratch list records
+  unfolding after
+  refused-run one two cache plan scratch list records =
+      λ i.
+      after
+      ((answer-refused cache one plan (length scratch) (length list) (length records)
+      ∙ sym (answer-refused cache two plan (length scratch) (length list) (length records))) i)
+      ((list-refused cache one plan (length scratch) list (length records) ∙ sym (list-refused cache two plan (length scratch) list (length records))) i)
+      ((records-refused cache one plan (length scratch) (length list) records
+      ∙ sym (records-refused cache two plan (length scratch) (length list) records)) i)
+      (runScratch scratch)
+
+  refused-draw : (one two bytes : List ℕ) → afterDraw one query bytes ≡ afterDraw two query bytes
+  unfolding drawn
+  refused-draw one two bytes =
+      ap₂ drawn (drawn-refused one (length bytes) ∙ sym (drawn-refused two (length bytes))) (bytes-refused one bytes ∙ sym (bytes-refused two bytes))
+
   refused-cannot : (one two : List ℕ) → CannotSee query one two
-  unfolding after drawn ordered
+  unfolding ordered
   refused-cannot one two =
       record {
-        run = λ cache plan scratch list records. λ i.
-            after
-            ((answer-refused cache one plan (length scratch) (length list) (length records)
-            ∙ sym (answer-refused cache two plan (length scratch) (length list) (length records))) i)
-            ((list-refused cache one plan (length scratch) list (length records) ∙ sym (list-refused cache two plan (length scratch) list (length records))) i)
-            ((records-refused cache one plan (length scratch) (length list) records
-            ∙ sym (records-refused cache two plan (length scratch) (length list) records)) i)
-            (runScratch scratch);
-        draw = λ bytes.
-            ap₂ drawn (drawn-refused one (length bytes) ∙ sym (drawn-refused two (length bytes))) (bytes-refused one bytes ∙ sym (bytes-refused two bytes));
+        run = refused-run one two;
+        draw = refused-draw one two;
         bounds = λ plan. bounds-refused one plan ∙ sym (bounds-refused two plan);
         orderings = λ scratch words.
             ap₂ (ordered (runScratch scratch))
             (ordered-refused one (length scratch) (length words) ∙ sym (ordered-refused two (length scratch) (length words)))
             (words-refused one (length scratch) words ∙ sym (words-refused two (length scratch) words));
+        find = same-find query one two (refused-run one two) (refused-draw one two);
       }
 
 -- ---- a query file that is accepted
@@ -246,20 +258,30 @@ module _ (query one two : List ℕ) (t : TwoCompanies query one two) (e : queryF
   pub same-readings : SameReadings (queryOf query) (graphIn one) (graphIn two)
   same-readings = own-readings (queryOf query) (graphIn one) (graphIn two) (t .others e .none-any) same-own
 
+  stores : storeFault one ≡ storeFault two
+  stores = t .one-accepted ∙ sym (t .two-accepted)
+
+  accepted-run : (cache : Bool) (plan scratch list : List ℕ) (records : List Record)
+      → afterRun cache one query plan scratch list records ≡ afterRun cache two query plan scratch list records
+  accepted-run cache plan =
+      same-run query one two stores cache plan
+      (same-plan (queryOf query) (graphIn one) (graphIn two) (t .others e .none-any) same-own cache (operatorsOf plan))
+
+  accepted-draw : (bytes : List ℕ) → afterDraw one query bytes ≡ afterDraw two query bytes
+  accepted-draw = same-draw query one two stores (same-drawn (queryOf query) (graphIn one) (graphIn two) same-readings)
+
   accepted-cannot : CannotSee query one two
   accepted-cannot =
-      let stores : storeFault one ≡ storeFault two = t .one-accepted ∙ sym (t .two-accepted) in
       record {
-        run = λ cache plan.
-            same-run query one two stores cache plan
-            (same-plan (queryOf query) (graphIn one) (graphIn two) (t .others e .none-any) same-own cache (operatorsOf plan));
-        draw = same-draw query one two stores (same-drawn (queryOf query) (graphIn one) (graphIn two) same-readings);
+        run = accepted-run;
+        draw = accepted-draw;
         bounds = λ plan.
             same-numbers query one two stores plan
             (λ c. same-bounds (queryOf query) (graphIn one) (graphIn two) same-readings (operatorsOf plan) (accepted query plan c .plan-named));
         orderings =
             same-orderings query one two stores (same-limit (queryOf query) (graphIn one) (graphIn two) (t .others e .none-any) same-own)
             (same-entries (queryOf query) (graphIn one) (graphIn two) (t .others e .none-any) same-own);
+        find = same-find query one two accepted-run accepted-draw;
       }
 
 -- What another company hangs cannot be seen in any answer.

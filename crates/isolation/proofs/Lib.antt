@@ -6,5 +6,6 @@ pub mod Plans
 pub mod Drawn
 pub mod Bounded
 pub mod Ordered
+pub mod Found
 pub mod Answers
 pub mod Worked

@@ -9,6 +9,7 @@ use Rattle.run_spec.specs.declared.Record.{Record}
 use Rattle.run_spec.specs.Run.{runAnswer, runList, runRecords, runScratch}
 use Rattle.planner.specs.declared.DrawAnswer.{DrawAnswer}
 use Rattle.planner.specs.Draw.{drawAnswer, drawBytes}
+use Rattle.find.specs.Find.{findAnswer, findBytes, findList, findRecords}
 use Rattle.plan_bounds.specs.Answer.{boundsAnswer}
 use Rattle.plan_spectrum.specs.declared.OrderingsAnswer.{OrderingsAnswer}
 use Rattle.plan_spectrum.specs.Spectrum.{orderingsAnswer, orderingsWords}
@@ -56,6 +57,27 @@ afterOrderings store query scratch words =
       scratch = runScratch scratch;
     }
 
+-- And after Find: the run's answer, the drawn plan's length, the lent bytes, and the list, the records and
+-- the scratch.
+pub record AfterFind : Type 0 where
+  pub answer : RunAnswer
+  pub drawn : ℕ
+  pub bytes : List ℕ
+  pub list : List ℕ
+  pub records : List Record
+  pub scratch : List ℕ
+
+abbrev pub afterFind : Bool → List ℕ → List ℕ → List ℕ → List ℕ → List ℕ → List Record → AfterFind
+afterFind cache store query bytes scratch list records =
+    record {
+      answer = findAnswer cache store query bytes (length scratch) (length list) (length records);
+      drawn = findBytes cache store query bytes (length scratch) (length list) (length records);
+      bytes = drawBytes store query bytes;
+      list = findList cache store query bytes (length scratch) list (length records);
+      records = findRecords cache store query bytes (length scratch) (length list) records;
+      scratch = runScratch scratch;
+    }
+
 -- No answer tells two stores apart: whatever plan, cache setting and buffers are lent, refused runs too. The
 -- bounds of a plan lend nothing: their answer is all.
 pub record CannotSee (query one two : List ℕ) : Type 0 where
@@ -66,6 +88,9 @@ pub record CannotSee (query one two : List ℕ) : Type 0 where
   pub bounds : (plan : List ℕ) → boundsAnswer one query plan ≡ boundsAnswer two query plan
   pub orderings : (scratch words : List ℕ) → afterOrderings one query scratch words
       ≡ afterOrderings two query scratch words
+  pub find : (cache : Bool) (bytes scratch list : List ℕ) (records : List Record)
+      → afterFind cache one query bytes scratch list records
+      ≡ afterFind cache two query bytes scratch list records
 
 -- What another company hangs cannot be seen in any answer.
 abbrev pub NonInterference : List ℕ → List ℕ → List ℕ → Type 0
