@@ -106,6 +106,10 @@ int main(void)
     printf("drawn: refusal %" PRIu32 ", %" PRIu64 " bytes:", refusal, bytes);
     if (refusal == 0)
         print_plan(drawn);
+    refusal = rizhavaan_find(store, WORDS, query, sizeof query, drawn, sizeof drawn, true, scratch, 64, list, 12,
+                             records, 2, &bytes, &rows, &cost, &build, &probe);
+    printf("found: refusal %" PRIu32 ", %" PRIu64 " bytes, matches %" PRIu64 " cost %" PRIu64 "\n", refusal, bytes, rows, cost);
+    print_rows(rows);
 
     refusal = rizhavaan_apply_changes(store, WORDS, changes, sizeof changes, changed, CHANGED_WORDS,
                                       &vertices, &edges);
