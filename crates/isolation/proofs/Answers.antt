@@ -16,6 +16,8 @@ use Rattle.plan.specs.File.{operatorsOf, checkFault}
 use Rattle.run_spec.specs.declared.RunAnswer.{RunAnswer}
 use Rattle.run_spec.specs.declared.Record.{Record}
 use Rattle.run_spec.specs.Run.{runFault, runAnswer, runList, runRecords, runScratch}
+use Rattle.count.specs.declared.CountAnswer.{CountAnswer}
+use Rattle.count.specs.Count.{countFault, countAnswer}
 use Rattle.planner.specs.declared.DrawAnswer.{DrawAnswer}
 use Rattle.planner.specs.Draw.{drawnPlan, drawFault, drawAnswer, drawBytes}
 use Rattle.plan_file.proofs.Accepted.{accepted}
@@ -26,7 +28,7 @@ use Rattle.plan_spectrum.specs.Orders.{orderings}
 use Rattle.plan_spectrum.specs.Spectrum.{maxSpectrum, entries, limitFault, orderingsFault, orderingsAnswer, orderingsWords}
 use Rattle.isolation.specs.Others.{TwoCompanies}
 use Rattle.isolation.specs.inner.Readings.{SameReadings}
-use Rattle.isolation.specs.CannotSee.{AfterRun, afterRun, AfterDraw, afterDraw, AfterOrderings, afterOrderings, CannotSee, NonInterference}
+use Rattle.isolation.specs.CannotSee.{AfterRun, afterRun, AfterCount, afterCount, AfterDraw, afterDraw, AfterOrderings, afterOrderings, CannotSee, NonInterference}
 use Rattle.isolation.proofs.Found.{same-find}
 use Rattle.isolation.proofs.Own.{own, own-readings}
 use Rattle.isolation.proofs.Listed.{one-list}
@@ -38,6 +40,9 @@ use Rattle.isolation.proofs.Ordered.{same-limit, same-entries}
 -- What a caller has in hand, put together.
 after : RunAnswer → List ℕ → List Record → List ℕ → AfterRun
 after answer list records scratch = record { answer = answer; list = list; records = records; scratch = scratch }
+
+counted : List ℕ → CountAnswer → AfterCount
+counted scratch answer = record { answer = answer; scratch = scratch }
 
 drawn : DrawAnswer → List ℕ → AfterDraw
 drawn answer bytes = record { answer = answer; bytes = bytes }
@@ -79,6 +84,15 @@ module _ (query : List ℕ) (refused : queryFault query ≡ 0 → ⊥) where
     records-refused : (scratch list : ℕ) (records : List Record) → runRecords cache store query plan scratch list records ≡ records
     unfolding runRecords
     records-refused scratch list records = rw (run-refused scratch list (length records), given)
+
+    count-fault-refused : (scratch : ℕ) → countFault cache store query plan scratch ≡ queryFault query
+    unfolding countFault
+    count-fault-refused scratch = first-some (checkFault query plan) _ (λ z. refused (sym (check-refused plan) ∙ z)) ∙ check-refused plan
+
+    count-refused : (scratch : ℕ)
+        → countAnswer cache store query plan scratch ≡ record { refusal = queryFault query; rows = 0; cost = 0; build = 0; probe = 0; need = 0 }
+    unfolding countAnswer
+    count-refused scratch = rw (count-fault-refused scratch, given)
 
   draw-refused : (store : List ℕ) (room : ℕ) → drawFault store query room ≡ queryFault query
   unfolding drawFault
@@ -132,10 +146,12 @@ module _ (query : List ℕ) (refused : queryFault query ≡ 0 → ⊥) where
       ap₂ drawn (drawn-refused one (length bytes) ∙ sym (drawn-refused two (length bytes))) (bytes-refused one bytes ∙ sym (bytes-refused two bytes))
 
   refused-cannot : (one two : List ℕ) → CannotSee query one two
-  unfolding ordered
+  unfolding counted ordered
   refused-cannot one two =
       record {
         run = refused-run one two;
+        count = λ cache plan scratch.
+            ap (counted (runScratch scratch)) (count-refused cache one plan (length scratch) ∙ sym (count-refused cache two plan (length scratch)));
         draw = refused-draw one two;
         bounds = λ plan. bounds-refused one plan ∙ sym (bounds-refused two plan);
         orderings = λ scratch words.
@@ -174,6 +190,18 @@ module _ (query one two : List ℕ) (stores : storeFault one ≡ storeFault two)
       λ i.
       after (same-answer (length scratch) (length list) (length records) i) (same-list (length scratch) list (length records) i)
       (same-records (length scratch) (length list) records i) (runScratch scratch)
+
+  same-count-fault : (scratch : ℕ) → countFault cache one query plan scratch ≡ countFault cache two query plan scratch
+  unfolding countFault
+  same-count-fault scratch = rw (stores, p .need, p .passes)
+
+  same-counted : (scratch : ℕ) → countAnswer cache one query plan scratch ≡ countAnswer cache two query plan scratch
+  unfolding countAnswer
+  same-counted scratch = rw (same-count-fault scratch, p .rows, p .cost, p .build, p .probe, p .need)
+
+  same-count : (scratch : List ℕ) → afterCount cache one query plan scratch ≡ afterCount cache two query plan scratch
+  unfolding counted
+  same-count scratch = ap (counted (runScratch scratch)) (same-counted (length scratch))
 
 -- Where the same plan is drawn over both graphs, drawing answers and leaves the same.
 module _ (query one two : List ℕ) (stores : storeFault one ≡ storeFault two)
@@ -274,6 +302,9 @@ module _ (query one two : List ℕ) (t : TwoCompanies query one two) (e : queryF
   accepted-cannot =
       record {
         run = accepted-run;
+        count = λ cache plan.
+            same-count query one two stores cache plan
+            (same-plan (queryOf query) (graphIn one) (graphIn two) (t .others e .none-any) same-own cache (operatorsOf plan));
         draw = accepted-draw;
         bounds = λ plan.
             same-numbers query one two stores plan

@@ -7,6 +7,8 @@ use lib.ListN.{length}
 use Rattle.run_spec.specs.declared.RunAnswer.{RunAnswer}
 use Rattle.run_spec.specs.declared.Record.{Record}
 use Rattle.run_spec.specs.Run.{runAnswer, runList, runRecords, runScratch}
+use Rattle.count.specs.declared.CountAnswer.{CountAnswer}
+use Rattle.count.specs.Count.{countAnswer}
 use Rattle.planner.specs.declared.DrawAnswer.{DrawAnswer}
 use Rattle.planner.specs.Draw.{drawAnswer, drawBytes}
 use Rattle.find.specs.Find.{findAnswer, findBytes, findList, findRecords}
@@ -31,6 +33,15 @@ afterRun cache store query plan scratch list records =
       records = runRecords cache store query plan (length scratch) (length list) records;
       scratch = runScratch scratch;
     }
+
+-- And after Count: the answer (refusal, the four numbers and the need) and the scratch.
+pub record AfterCount : Type 0 where
+  pub answer : CountAnswer
+  pub scratch : List ℕ
+
+abbrev pub afterCount : Bool → List ℕ → List ℕ → List ℕ → List ℕ → AfterCount
+afterCount cache store query plan scratch =
+    record { answer = countAnswer cache store query plan (length scratch); scratch = runScratch scratch }
 
 -- And after a plan was drawn: the answer and the lent bytes.
 pub record AfterDraw : Type 0 where
@@ -84,6 +95,8 @@ pub record CannotSee (query one two : List ℕ) : Type 0 where
   pub run : (cache : Bool) (plan scratch list : List ℕ) (records : List Record)
       → afterRun cache one query plan scratch list records ≡ afterRun cache two query plan scratch list
       records
+  pub count : (cache : Bool) (plan scratch : List ℕ) → afterCount cache one query plan scratch
+      ≡ afterCount cache two query plan scratch
   pub draw : (bytes : List ℕ) → afterDraw one query bytes ≡ afterDraw two query bytes
   pub bounds : (plan : List ℕ) → boundsAnswer one query plan ≡ boundsAnswer two query plan
   pub orderings : (scratch words : List ℕ) → afterOrderings one query scratch words

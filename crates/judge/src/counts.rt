@@ -20,7 +20,7 @@ fn call_count(store: &[u32], files: &[u8], w: Lent, scratch: &mut [u32]) -> Coun
 }
 
 // A count that is lent words of the store and the scratch.
-fn lend(store: &[u32], files: &[u8], w: Lent, scratch: &mut [u32]) -> CountAnswer {
+pub fn lend(store: &[u32], files: &[u8], w: Lent, scratch: &mut [u32]) -> CountAnswer {
     let used = first(store, w.store);
     let words = least(w.scratch, scratch.len());
     call_count(used, files, w, &mut scratch[0..words])

@@ -1,5 +1,6 @@
-// Edges of labels that a query does not name: over a second store that has others of them, Run and Draw plan
-// answer and leave the same.
+// Edges of labels that a query does not name: over a second store that has others of them, Run, Count and
+// Draw plan answer and leave the same. Bounds and All orderings have judges of their own, which do so too.
+use crate::counts;
 use crate::records::COUNT;
 use crate::runs;
 use judge_inputs::graphs;
@@ -14,17 +15,6 @@ use judge_matcher::tally::*;
 use planner::DrawAnswer;
 use run::RunAnswer;
 use run_spec::Record;
-
-// The labels of a query's edges, a bit each: any label, then the graph's first three.
-fn named(q: &Query) -> usize {
-    let mut set = 0;
-    for i in 0..32usize {
-        if i < q[queries::EDGES] {
-            set = set | 1usize << (queries::edge(q, i) % 4);
-        }
-    }
-    set
-}
 
 fn same_answers(a: RunAnswer, b: RunAnswer) -> bool {
     let counts = (a.rows == b.rows) & (a.cost == b.cost);
@@ -61,6 +51,20 @@ fn same_run(one: &Store, two: &Store, files: &Files, w: Lent, words: usize) -> b
     same & lists & same_words(&scratch, &scratch_two, LIST_WORDS)
 }
 
+// A count over each of two stores: the answer, and every word afterwards.
+fn same_count(one: &Store, two: &Store, files: &Files, w: Lent, words: usize) -> bool {
+    let mut scratch = [MARK; LIST_WORDS];
+    let mut scratch_two = [MARK; LIST_WORDS];
+    let mut v = w;
+    v.store = words;
+    let a = counts::lend(one, files, w, &mut scratch);
+    let b = counts::lend(two, files, v, &mut scratch_two);
+    let numbers = (a.rows == b.rows) & (a.cost == b.cost) & (a.need == b.need);
+    let sums = (a.build == b.build) & (a.probe == b.probe);
+    let same = (a.refusal == b.refusal) & numbers & sums;
+    same & same_words(&scratch, &scratch_two, LIST_WORDS)
+}
+
 // The one call of Draw plan.
 fn draw(store: &[u32], query: &[u8], plan: &mut [u8], room: usize) -> DrawAnswer {
     let end = least(room, plan.len());
@@ -91,11 +95,13 @@ fn judge_stores(
     judge(tally, OTHERS, same_run(one, two, files, w, words));
     w.cache = true;
     judge(tally, OTHERS, same_run(one, two, files, w, words));
+    judge(tally, OTHERS, same_count(one, two, files, w, words));
     w.list = below(seed, 64);
     judge(tally, OTHERS, same_run(one, two, files, w, words));
     w.scratch = below(seed, 32);
     w.records = few_records(seed, w.records);
     judge(tally, OTHERS, same_run(one, two, files, w, words));
+    judge(tally, OTHERS, same_count(one, two, files, w, words));
     let query = part(files, 0, w.query);
     let room = below(seed, 8);
     let drawn = same_draw(first(one, w.store), first(two, words), query, room);
@@ -122,7 +128,7 @@ pub fn judge_others(
     seed: u64,
     tally: &mut Tally,
 ) {
-    let labels = named(q);
+    let labels = queries::named(q);
     if labels % 2 == 1 {
         return;
     }

@@ -29,6 +29,25 @@ pub fn put_field(file: &mut [u8], at: usize, width: usize, value: usize) -> usiz
     add(at, width)
 }
 
+// Bit i of a file; 0 outside it.
+pub fn bit(file: &[u8], i: usize) -> usize {
+    let at = i / 8;
+    if at < file.len() {
+        let byte = file[at];
+        return ((byte >> (7 - i % 8)) % 2) as usize;
+    }
+    0
+}
+
+// The field of so many bits at a position.
+pub fn field(file: &[u8], at: usize, width: usize) -> usize {
+    let mut value = 0;
+    for i in 0..width {
+        value = value << 1 | bit(file, add(at, i));
+    }
+    value
+}
+
 // The bytes that so many bits take.
 pub fn bytes_for(bits: usize) -> usize {
     add(bits, 7) / 8

@@ -82,6 +82,17 @@ pub fn edge(q: &Query, i: usize) -> usize {
     q[LIST + i % 32]
 }
 
+// The labels of a query's edges, a bit each: any label, then the graph's first three.
+pub fn named(q: &Query) -> usize {
+    let mut set = 0;
+    for i in 0..32usize {
+        if i < q[EDGES] {
+            set = set | 1usize << (edge(q, i) % 4);
+        }
+    }
+    set
+}
+
 pub fn label(q: &Query, v: usize) -> usize {
     graphs::vertex_label(q[LABEL_BITS], v)
 }

@@ -3,7 +3,7 @@ use libc::STDOUT_FILENO;
 
 pub type Tally = [u64; WORDS];
 
-pub const WORDS: usize = 64;
+pub const WORDS: usize = 72;
 
 // The kinds of results.
 pub const WORKED: usize = 0;
@@ -33,7 +33,7 @@ pub const RECORDS: usize = 11;
 pub const CHANGED: usize = 12;
 
 // How many results differed.
-const DIFFERED: usize = 13;
+pub const DIFFERED: usize = 13;
 
 // What the stream had.
 pub const GRAPHS: usize = 14;
@@ -58,7 +58,7 @@ pub const ROWS: usize = 22;
 pub const OTHERS: usize = 23;
 
 // How often the engine gave each refusal, from this word on.
-const REFUSALS: usize = 32;
+pub const REFUSALS: usize = 32;
 
 // Counts so many more of something.
 pub fn count(tally: &mut Tally, at: usize, more: u64) {
@@ -84,12 +84,12 @@ pub fn judge(tally: &mut Tally, kind: usize, same: bool) {
 
 // Counts an answer's refusal. Refused, its other numbers are to be zeros.
 pub fn judge_refusal(tally: &mut Tally, refusal: u32, zeros: bool) {
-    count(tally, REFUSALS + refusal as usize % 32, 1);
+    count(tally, REFUSALS + refusal as usize % 40, 1);
     judge(tally, REFUSED, (refusal == 0) | zeros);
 }
 
 // Prints what some words of the tally count, and under it those words.
-fn print_counts(names: &[u8], tally: &Tally, from: usize, to: usize) {
+pub fn print_counts(names: &[u8], tally: &Tally, from: usize, to: usize) {
     io::write_all(STDOUT_FILENO, names);
     for i in from..to {
         print_count(b" ", tally[i % WORDS]);

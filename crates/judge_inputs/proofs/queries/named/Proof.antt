@@ -1,8 +1,8 @@
--- `judge::others::named` is safe and ends. Assumes nothing.
+-- `judge_inputs::queries::named` is safe and ends. Assumes nothing.
 use borrow.Author.Needs.{needs}
 use Prim.Native.Nat.{_-_}
-use Rattle.judge.proofs.others.named.Statement.{statement}
-use Rattle.judge.proofs.others.named.Tie as tie
+use Rattle.judge_inputs.proofs.queries.named.Statement.{statement}
+use Rattle.judge_inputs.proofs.queries.named.Tie as tie
 
 pub named-spec : {M : Type 1} → statement M
 named-spec = tie.close (tie.spec
