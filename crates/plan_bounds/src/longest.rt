@@ -1,15 +1,15 @@
 // The longest portions of an extend's query edges: the least and the sum of them.
 use adjacency::neighbours;
-use adjacency::portion;
 use graph::Graph;
 use query::Edge;
 use query::Query;
 use query::set;
 ghost use mathlib.Core.Path.{_≡_};
 ghost use mathlib.Core.List.{List, [], _∷_, _++_};
-ghost use Prim.Native.Nat.{ℕ, suc, _+_, _*_, _≤_, _<_};
+ghost use Prim.Native.Nat.{ℕ, suc, _+_, _*_, _/_, _≤_, _<_};
 ghost use Rattle.lists.specs.Lists.{bit, countIf};
-ghost use Rattle.graph.specs.Graph.{Edge as EdgeDef, maxEdgeLabel, maxGraphEdges, Direction};
+ghost use Rattle.graph.specs.Graph.{Edge as EdgeDef, maxEdgeLabel, maxGraphEdges, entrySpan, Direction};
+ghost use Rattle.graph.specs.Graph.{covers, portionLength};
 ghost use Rattle.graph.specs.Store.{graphIn, storeFault};
 ghost use Rattle.query.specs.Query.{between};
 ghost use Rattle.query.specs.File.{maxEdges};
@@ -17,7 +17,7 @@ ghost use Rattle.query.specs.inner.Struct.{asEdge, queryIn};
 ghost use Rattle.query.specs.inner.Mask.{inMask};
 ghost use Rattle.plan_order.specs.Order.{edgesOf};
 ghost use Rattle.plan_order.specs.inner.Counts.{Drawable};
-ghost use Rattle.adjacency.specs.inner.Side.{sideIn};
+ghost use Rattle.adjacency.specs.inner.Side.{sideIn, Lookup};
 ghost use Rattle.plan_bounds.specs.Bounds.{longestPortion, longestFor, leastPortion, sumOfPortions};
 ghost use Rattle.plan_bounds.specs.inner.Held.{Sided, Counts, Seen, covering};
 
@@ -71,6 +71,36 @@ impl Portions {
     }
 }
 
+// How many entries of a list a label covers.
+fn covered(list: &[u32], label: u32) -> usize
+    ensures { λ r. ⌜ r ≡ countIf (λ (k : ℕ). covers label (k / entrySpan)) (now (list .entry)) ⌝ }
+{
+    if label == 0 {
+        return list.len();
+    }
+    let mut count = 0;
+    let mut i = 0;
+    while i < list.len() {
+        if list[i] / Graph::SPAN == label {
+            count += 1;
+            i += 1;
+        } else {
+            i += 1;
+        }
+    }
+    count
+}
+
+// The length of a vertex's portion for a label. Its entries are counted: `adjacency::portion` is left to the
+// rows of a run, and the compiler makes it a part of the function that looks these up.
+fn portion_length(store: &[u32], n: usize, side: usize, v: usize, label: u32) -> usize
+    requires { ⌜ Lookup (now store) n side v ⌝ }
+    ensures { λ r. ⌜ ((d : Direction) → side ≡ sideIn d (now (store .entry))
+        → r ≡ portionLength (graphIn (now (store .entry))) d label v) ⌝ }
+{
+    covered(neighbours(store, n, side, v), label)
+}
+
 // The longest portion that any vertex has for a label on a side. A vertex whose whole list is no longer than
 // the longest so far is passed over.
 fn longest(store: &[u32], n: usize, side: usize, label: u32) -> usize
@@ -84,7 +114,7 @@ fn longest(store: &[u32], n: usize, side: usize, label: u32) -> usize
         if neighbours(store, n, side, v).len() <= most {
             v += 1;
         } else {
-            let length = portion(store, n, side, v, label).len();
+            let length = portion_length(store, n, side, v, label);
             if most < length {
                 most = length;
                 v += 1;

@@ -27,11 +27,9 @@ at : (c : tie.In-loop Inv-loop μ-loop) → let a = c .before .before .before .a
 at c = lookup _ _ _ (c .before .before .before .pre .0) _ (c .loop-test .taken)
 
 -- What was found of its portion is the portion's length.
-seen : (c : tie.After-portion Inv-loop μ-loop) → let a = c .before .before .before .before .before .before .args in (d : Direction) → a .side ≡ sideIn d (a .store .now)
-    → length (c .portion .result .now) ≡ portionLength (graphIn (a .store .now)) d (a .label) (c .before .before .before .before .loop .v)
-seen c d e =
-    let l = c .before .before .before in
-    ap length (c .portion .ensures d e) ∙ portion-is _ _ _ (l .before .before .before .pre .0) _ (l .loop-test .taken) d _
+seen : (c : tie.After-portion-length Inv-loop μ-loop) → let a = c .before .before .before .before .before .before .args in (d : Direction) → a .side ≡ sideIn d (a .store .now)
+    → c .portion-length .result ≡ portionLength (graphIn (a .store .now)) d (a .label) (c .before .before .before .before .loop .v)
+seen c d e = c .portion-length .ensures d e
 
 loop-holds : tie.Need-loop-holds Inv-loop μ-loop
 unfolding range largest
@@ -55,8 +53,8 @@ loop-again c =
           (le-trans (portion-in-list _ _ _ (s .pre .0) _ (c .before .before .loop-test .taken) d e (s .args .label)) (rw (c .before .neighbours .ensures) at (c .if1 .taken))),
     )
 
-portion-requires : tie.Need-portion-requires Inv-loop μ-loop
-portion-requires c κs = (at (c .before .before), c .before .before .before .before .before .pre .1)
+portion-length-requires : tie.Need-portion-length-requires Inv-loop μ-loop
+portion-length-requires c κs = at (c .before .before)
 
 add-v-2 : tie.Need-add-v-2 Inv-loop μ-loop
 add-v-2 c = search needs
@@ -101,7 +99,7 @@ longest-spec =
     add-v
     loop-less
     loop-again
-    portion-requires
+    portion-length-requires
     add-v-2
     loop-less-2
     loop-again-2
