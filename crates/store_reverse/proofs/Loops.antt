@@ -9,7 +9,7 @@ use native.Mathlib.Omega.{arith}
 use lib.Dec.{eqb, ltb}
 use lib.ListN.{length, getD, drop, drop-of-length-le}
 use lib.Seq.{drop-cons}
-use borrow.Author.Tests.{eq-eqb, ne-eqb, ltb-true, lt-ltb, le-ltb, le-leb, lt-leb}
+use borrow.Author.Tests.{eq-eqb, ne-eqb, ltb-true, lt-ltb, le-ltb, le-leb}
 use Rattle.lists.specs.Lists.{range, all, any, ascendsFrom, ascending}
 use Rattle.lists.proofs.Tests.{clash, fails, and-l, and-r, and-both, eqb-sym}
 use Rattle.lists.proofs.All.{all-at, all-and, all-append, all-getD}
@@ -155,12 +155,6 @@ offsets-next {m} {s} {last} {i} a h l =
           a .left ∙ ap (risesTo m last) (rest s h)
           ∙ ap (λ (b : Bool). b && risesTo m (getD s i 0) (drop (i + 1) s)) (le-leb last (getD s i 0) l);
     }
-
-pub offsets-stop : {m : ℕ} {s : List ℕ} {last i : ℕ} → OffsetsFrom m s last i → i < length s → getD s i 0 < last → 19 ≡ unless (offsetsFit m s)
-unfolding risesTo
-offsets-stop {m} {s} {last} {i} a h l =
-    refused
-    (a .left ∙ ap (risesTo m last) (rest s h) ∙ ap (λ (b : Bool). b && risesTo m (getD s i 0) (drop (i + 1) s)) (lt-leb last (getD s i 0) l))
 
 offsets-last : {m : ℕ} {s : List ℕ} {last i : ℕ} → OffsetsFrom m s last i → length s ≤ i → offsetsFit m s ≡ eqb last m
 unfolding risesTo
