@@ -116,12 +116,10 @@ fn main() {
     fs::remove_dir_all(&folder).unwrap();
     let ms = |d: Duration| d.as_secs_f64() * 1_000.0 / ROUNDS as f64;
     let bar = 4.0 * ms(engine) + 60.0;
-    println!("{name}; {rows} rows");
-    println!("Load, draw plan and run   {:6.1} ms", ms(engine));
-    println!(
-        "find, a text              {:6.1} ms, {:.2} of the bar of 4 times that plus 60 ms",
-        ms(text),
-        ms(text) / bar
-    );
-    println!("find, tables              {:6.1} ms, {:.2} of twice that bar", ms(tables), ms(tables) / (2.0 * bar));
+    let of = |time: Duration, bar: f64| format!("{:.1} | {bar:.1} | {:.2}", ms(time), ms(time) / bar);
+    println!("On the benchmark's rig ({name}), a pattern with {rows} rows; processor time in milliseconds, the mean of {ROUNDS} rounds.\n");
+    println!("| work | ms | bar | of the bar |\n|---|---:|---:|---:|");
+    println!("| Load, draw plan and run | {:.1} | | |", ms(engine));
+    println!("| `find`, a text: 4 times that plus 60 ms | {} |", of(text, bar));
+    println!("| `find`, tables: twice that bar | {} |", of(tables, 2.0 * bar));
 }

@@ -49,7 +49,7 @@ pub enum Command {
     #[command(after_help = "Example:\n    rizhavaan import items.csv connections.csv -o hang.txt")]
     Import(Import),
     /// The text form to tables items.csv and connections.csv
-    #[command(after_help = "Example:\n    rizhavaan export hang.txt tables/")]
+    #[command(after_help = "Example:\n    rizhavaan export hang.txt -o tables/")]
     Export(Export),
     /// The text form to the packed files g.bin, q.bin, p.bin, c.bin and names.txt
     #[command(after_help = "Example:\n    rizhavaan pack hang.txt packed/")]
@@ -212,7 +212,7 @@ pub struct Import {
 pub struct Export {
     #[command(flatten)]
     pub files: Files,
-    /// The folder for the tables [default: that of the first file]
+    /// The folder for the tables, made where it is not there [default: that of the first file]
     #[arg(long, short, value_name = "FOLDER")]
     pub output: Option<PathBuf>,
 }
@@ -222,7 +222,7 @@ pub struct Pack {
     /// A text
     #[arg(value_name = "FILE")]
     pub file: PathBuf,
-    /// The folder for the packed files [default: that of the text]
+    /// The folder for the packed files, made where it is not there [default: that of the text]
     #[arg(value_name = "FOLDER")]
     pub folder: Option<PathBuf>,
     /// The pattern, where there are several

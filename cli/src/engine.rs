@@ -1,7 +1,7 @@
 //! The proved engine, by the wrapper of its static library.
 
 use library::Cache;
-use rizhavaan_core::engine::{Answer, Bounds, Engine, Record, Refusal};
+use rizhavaan_core::engine::{Answer, Bounds, Counted, Engine, Record, Refusal};
 
 /// The static library.
 pub struct Library;
@@ -43,9 +43,9 @@ impl Engine for Library {
         library::page_into(list, width, rows, page as usize, bytes).map(|pages| pages as u64).map_err(refused)
     }
 
-    fn count(&self, store: &[u32], query: &[u8], plan: &[u8], scratch: &mut [u32]) -> Option<Result<Answer, Refusal>> {
-        let counted = library::count(store, query, plan, Cache::On, scratch);
-        Some(counted.map(|counted| answer(counted.run)).map_err(refused))
+    fn count(&self, store: &[u32], query: &[u8], plan: &[u8], scratch: &mut [u32]) -> Option<Result<Counted, Refusal>> {
+        let counted = library::count(store, query, plan, Cache::On, scratch).map_err(refused);
+        Some(counted.map(|counted| Counted { answer: answer(counted.run), need: counted.need as u64 }))
     }
 
     fn run(

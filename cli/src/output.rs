@@ -58,6 +58,14 @@ impl Drop for Output {
     }
 }
 
+/// Makes the folder that files are written to, where it is not there.
+pub fn make_folder(folder: &Path) -> Result<()> {
+    if folder.as_os_str().is_empty() {
+        return Ok(());
+    }
+    fs::create_dir_all(folder).map_err(|e| Stop::Because(format!("{}: {e}", folder.display())))
+}
+
 /// Writes a line to standard error; if that fails, there is nobody to tell.
 pub fn tell(message: &str) {
     let _ = writeln!(io::stderr(), "{message}");

@@ -10,7 +10,7 @@ use rizhavaan_core::packing::{Files, Packed};
 use crate::args::{Pack, Unpack};
 use crate::faults;
 use crate::files::{reason, sources, Read};
-use crate::output::write_all;
+use crate::output::{make_folder, write_all};
 use crate::progress::Progress;
 use crate::stop::{Result, Stop};
 
@@ -38,6 +38,7 @@ pub fn pack(arguments: &Pack) -> Result<u8> {
     let beside = arguments.file.parent().unwrap_or(Path::new(""));
     let folder = arguments.folder.as_deref().unwrap_or(beside);
     let packed = Packed::of(document, pattern);
+    make_folder(folder)?;
     for (name, bytes) in Packed::FILES.iter().zip(packed.to_files()) {
         if let Some(bytes) = bytes {
             let path = folder.join(name);

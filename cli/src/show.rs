@@ -28,7 +28,7 @@ pub fn explain(arguments: &Explain) -> Result<u8> {
         let found = read.explain(loaded.find_recorded(&Library, pattern, &options))?;
         all.push(read.explain(explain::explain(&Library, &loaded, &found, options.memory))?);
         if arguments.orderings {
-            all.push(read.explain(orderings::plot(&Library, &loaded, &found, options.memory))?);
+            all.push(read.explain(orderings::plot(&Library, &loaded, pattern, &found.query, options.memory))?);
         }
     }
     progress.end();

@@ -7,7 +7,7 @@ use rizhavaan_core::{tables, write};
 use crate::args::{Export, Import};
 use crate::files::{sources, Read};
 use crate::find::show_summary;
-use crate::output::write_all;
+use crate::output::{make_folder, write_all};
 use crate::progress::Progress;
 use crate::stop::{Result, Stop};
 
@@ -29,6 +29,7 @@ pub fn export(arguments: &Export) -> Result<u8> {
     };
     let beside = if files[0].is_dir() { files[0].as_path() } else { files[0].parent().unwrap_or(Path::new("")) };
     let folder = arguments.output.as_deref().unwrap_or(beside);
+    make_folder(folder)?;
     for (name, table) in tables::FILES.iter().zip(tables::tables(document, hang)) {
         write_all(Some(&folder.join(name)), &table)?;
     }

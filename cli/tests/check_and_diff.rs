@@ -139,7 +139,15 @@ operator            estimated  rows                           cost
 scan t -bolted-> p          2     2 ########################     0
 
 The cost counts the entries of neighbour lists that were looked up; the longest bar is the operator to change.
-No run of it passes 4 words of list, 2 of scratch, cost 0 and 2 rows of an operator.
+
+                     at most  this run
+words of list              4         4
+words of scratch           2         2
+cost                       0         0
+rows of an operator        2         2
+
+With so many words set aside no run of this plan is refused for want of them.
+
 The drawn plan is the same.
 ";
     assert_eq!((status, out.as_str()), (0, expected));

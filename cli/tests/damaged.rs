@@ -181,5 +181,5 @@ fn a_sample_of_damaged_files() {
 #[ignore]
 fn many_damaged_files() {
     let (read, longest) = try_damaged(2, 10_000);
-    println!("{read} of 10000 were read, the longest in {longest:?}");
+    println!("{read} of 10000 had an answer, the others errors by line, the slowest in {:.0} ms", longest.as_secs_f64() * 1e3);
 }

@@ -350,3 +350,15 @@ fn sheet_with_its_key() {
     let (status, ..) = run(&dir, &["find", "key.txt", "--key"]);
     assert_eq!(status, 2);
 }
+
+/// A word that is near to no kind has them all beside it, where they are few.
+#[test]
+fn kinds_are_listed_where_none_is_near() {
+    let dir = folder("no-kind-is-near");
+    let text = "[kinds]\nitem motor\nitem pin\nconnection carries\n[graph]\np: pin\nm: motor\np -carries-> m\n[query]\na: zzzzzz\nb: motr\na -carries-> b\n";
+    fs::write(dir.join("hang.txt"), text).unwrap();
+    let (status, out, err) = run(&dir, &["find", "hang.txt"]);
+    assert_eq!((status, out.as_str()), (2, ""));
+    assert!(err.contains("no kind of item 'zzzzzz' is declared in [kinds]") && err.contains("write one of 'motor', 'pin'"), "{err}");
+    assert!(err.contains("did you mean 'motor'?"), "{err}");
+}

@@ -222,3 +222,17 @@ fn the_examples_are_packed() {
     }
     assert!(count >= 8);
 }
+
+/// A folder to write to is made where it is not there; where the text has errors, none is.
+#[test]
+fn folders_are_made() {
+    let dir = folder("made");
+    fs::write(dir.join("hang.txt"), "[graph]\nvertices 2\n0 -1-> 1\n[query]\nvertices 2\n0 -1-> 1\n").unwrap();
+    let (status, _, err) = run(&dir, &["pack", "hang.txt", "packed/here"]);
+    assert_eq!((status, dir.join("packed/here/g.bin").is_file()), (0, true), "{err}");
+    let (status, _, err) = run(&dir, &["export", "hang.txt", "-o", "tables"]);
+    assert_eq!((status, dir.join("tables/items.csv").is_file()), (0, true), "{err}");
+    fs::write(dir.join("wrong.txt"), "[graph]\nvertices x\n").unwrap();
+    let (status, _, _) = run(&dir, &["pack", "wrong.txt", "none"]);
+    assert_eq!((status, dir.join("none").exists()), (2, false));
+}

@@ -7,29 +7,20 @@ use std::fmt::Write;
 use std::fs;
 use std::path::Path;
 
-use common::{examples, folder, run, Numbers};
+use common::{examples, folder, patterns, rows, run, Numbers};
 use serde_json::Value;
 
 /// The patterns of a run's JSON.
-fn patterns(dir: &Path, arguments: &[&str]) -> Vec<Value> {
-    let (_, out, err) = run(dir, &[arguments, &["--json"]].concat());
-    let value: Value = serde_json::from_str(&out).unwrap_or_else(|e| panic!("{dir:?}: {e}\n{err}"));
-    let several = value["patterns"].as_array().cloned();
-    several.unwrap_or_else(|| vec![value])
-}
-
-fn rows(found: &Value) -> Vec<String> {
-    let mut rows: Vec<String> = found["rows"].as_array().unwrap().iter().map(Value::to_string).collect();
-    rows.sort();
-    rows
+fn found(dir: &Path, arguments: &[&str]) -> Vec<Value> {
+    patterns(&run(dir, &[arguments, &["--json"]].concat()).1)
 }
 
 #[test]
 fn every_example() {
     let mut count = 0;
     for example in examples() {
-        let picked = patterns(&example, &["find", ".", "--plan", "picked"]);
-        let drawn = patterns(&example, &["find", ".", "--plan", "drawn"]);
+        let picked = found(&example, &["find", ".", "--plan", "picked"]);
+        let drawn = found(&example, &["find", ".", "--plan", "drawn"]);
         assert_eq!(picked.len(), drawn.len());
         for (picked, drawn) in picked.iter().zip(&drawn) {
             assert_eq!(rows(picked), rows(drawn), "{example:?}");
@@ -103,7 +94,7 @@ fn random_hangs_and_foreign_kinds() {
         for (name, edges) in [("own.txt", &own), ("foreign.txt", &foreign), ("more.txt", &more)] {
             fs::write(dir.join(name), hang(&kinds, edges)).unwrap();
         }
-        let find = |file: &str, plan: &[&str]| patterns(&dir, &[&["find", file, "pattern.txt"], plan].concat()).remove(0);
+        let find = |file: &str, plan: &[&str]| found(&dir, &[&["find", file, "pattern.txt"], plan].concat()).remove(0);
         let picked = find("own.txt", &[]);
         assert_eq!(picked["planFrom"], "picked");
         let drawn = find("own.txt", &["--plan", "drawn"]);

@@ -23,6 +23,13 @@ pub struct Answer {
     pub probe: u64,
 }
 
+/// What a count answers: what a run would, and the words of scratch that it would need.
+#[derive(Clone, Copy, Debug, Default, PartialEq, Eq)]
+pub struct Counted {
+    pub answer: Answer,
+    pub need: u64,
+}
+
 /// What no run of a plan passes; a number too large for 64 bits is the largest of them.
 #[derive(Clone, Copy, Debug, PartialEq, Eq)]
 pub struct Bounds {
@@ -68,7 +75,7 @@ pub trait Engine: Sync {
     }
 
     /// Count, with the cache on: what a run would answer, in a scratch alone. A shell that lists every row leaves it.
-    fn count(&self, store: &[u32], query: &[u8], plan: &[u8], scratch: &mut [u32]) -> Option<Result<Answer, Refusal>> {
+    fn count(&self, store: &[u32], query: &[u8], plan: &[u8], scratch: &mut [u32]) -> Option<Result<Counted, Refusal>> {
         let _ = (store, query, plan, scratch);
         None
     }
@@ -89,6 +96,9 @@ pub const MAX_OPERATORS: usize = 31;
 /// A drawn plan has no more bytes than this.
 pub const MAX_DRAWN_BYTES: usize = 6;
 
+/// All orderings are listed for patterns of at most so many vertices.
+pub const MAX_ORDERED_VERTICES: usize = 5;
+
 /// As many words serve every list of orderings.
 pub const MAX_ORDERING_WORDS: usize = 864;
 
@@ -104,10 +114,11 @@ pub fn store_words(vertices: usize, edges: usize) -> usize {
 #[derive(Clone, Copy, Debug, PartialEq, Eq)]
 pub enum NoRun {
     Refused(Refusal),
-    /// Scratch and list would take more bytes than are allowed.
+    /// Scratch and list would take more bytes than are allowed: so many words where the rows were counted, else more than these.
     Memory {
         scratch: usize,
         list: usize,
+        counted: bool,
     },
 }
 
@@ -136,7 +147,26 @@ impl Default for First {
     }
 }
 
+/// A bound of at most so many words is set aside at once.
+const LITTLE: u64 = 1 << 20;
+
+/// Room that a run is lent besides the scratch that it needs: in one that holds the rows too they are found once and not twice. For long lists
+/// fresh memory takes longer than that.
+fn room(list: usize) -> usize {
+    if list as u64 <= LITTLE {
+        list
+    } else {
+        0
+    }
+}
+
 impl First {
+    /// The bounds of a plan where they are little, so that it is run once; else as before.
+    pub fn bounded(self, bounds: &Bounds) -> First {
+        let words = |bound: u64, thought: usize| if bound <= LITTLE { bound as usize } else { thought };
+        First { scratch: words(bounds.scratch_words, self.scratch), list: words(bounds.list_words, self.list) }
+    }
+
     /// No smaller than by default, and each at most an eighth of so many bytes: what one of them has and does not
     /// need, the other lacks.
     fn within(self, memory: usize) -> First {
@@ -156,7 +186,7 @@ pub fn run_growing(
     first: First,
 ) -> Result<Ran, NoRun> {
     let first = first.within(memory);
-    let mut scratch = vec![0; first.scratch];
+    let mut scratch = vec![0; first.scratch + room(first.list)];
     let mut list = vec![0; first.list];
     let mut records = vec![Record::default(); MAX_OPERATORS];
     loop {
@@ -168,12 +198,19 @@ pub fn run_growing(
                 return Ok(Ran { answer, list, records });
             }
             Err(Refusal(20)) if scratch.len() < MAX_WORDS => (&mut scratch, &list),
-            Err(Refusal(21)) if list.len() < MAX_WORDS => (&mut list, &scratch),
+            Err(Refusal(21)) if list.len() < MAX_WORDS => {
+                // It went through all rows to be refused; counted, they fit the next time.
+                if let Some(Ok(counted)) = engine.count(store, query, plan, &mut scratch) {
+                    fit(&counted, width, memory, &mut scratch, &mut list)?;
+                    continue;
+                }
+                (&mut list, &scratch)
+            }
             Err(refusal) => return Err(NoRun::Refused(refusal)),
         };
         let words = grow(grown.len(), other.len(), memory);
         if words <= grown.len() {
-            return Err(NoRun::Memory { scratch: scratch.len(), list: list.len() });
+            return Err(NoRun::Memory { scratch: scratch.len(), list: list.len(), counted: false });
         }
         // A new buffer and not a resized one: what it held is of no use.
         *grown = Vec::new();
@@ -181,8 +218,27 @@ pub fn run_growing(
     }
 }
 
-/// Counts what a run would answer, in a scratch that grows within so many bytes: a run without list and records. None where the engine does
-/// not count.
+/// A list that the counted rows fit, beside the scratch that they need, with room where there is memory left.
+fn fit(
+    counted: &Counted,
+    width: usize,
+    memory: usize,
+    scratch: &mut Vec<u32>,
+    list: &mut Vec<u32>,
+) -> Result<(), NoRun> {
+    let [rows, need] = [counted.answer.rows, counted.need].map(|words| usize::try_from(words).unwrap_or(usize::MAX));
+    let words = rows.saturating_mul(width);
+    let allowed = (memory / 4).checked_sub(words).filter(|&left| words <= MAX_WORDS && need <= left);
+    let left = match allowed {
+        Some(left) => left,
+        None => return Err(NoRun::Memory { scratch: need, list: words, counted: true }),
+    };
+    (*scratch, *list) = (Vec::new(), Vec::new());
+    (*scratch, *list) = (vec![0; (need + room(words)).min(left)], vec![0; words]);
+    Ok(())
+}
+
+/// Counts what a run would answer, in a scratch that grows within so many bytes. None where the engine does not count.
 pub fn count_growing(
     engine: &dyn Engine,
     store: &[u32],
@@ -190,17 +246,17 @@ pub fn count_growing(
     plan: &[u8],
     memory: usize,
     first: First,
-) -> Option<Result<Ran, NoRun>> {
+) -> Option<Result<Counted, NoRun>> {
     let mut scratch = vec![0; first.within(memory).scratch];
     loop {
         match engine.count(store, query, plan, &mut scratch)? {
-            Ok(answer) => return Some(Ok(Ran { answer, list: Vec::new(), records: Vec::new() })),
+            Ok(counted) => return Some(Ok(counted)),
             Err(Refusal(20)) if scratch.len() < MAX_WORDS => {}
             Err(refusal) => return Some(Err(NoRun::Refused(refusal))),
         }
         let words = grow(scratch.len(), 0, memory);
         if words <= scratch.len() {
-            return Some(Err(NoRun::Memory { scratch: scratch.len(), list: 0 }));
+            return Some(Err(NoRun::Memory { scratch: scratch.len(), list: 0, counted: false }));
         }
         scratch = Vec::new();
         scratch.resize(words, 0);

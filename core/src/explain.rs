@@ -4,9 +4,10 @@ use std::collections::BTreeSet;
 use std::fmt::Write;
 
 use crate::document::{Document, Pattern};
-use crate::engine::{meaning, Bounds, Engine};
+use crate::engine::{meaning, Engine};
 use crate::failure::Failure;
 use crate::find::{places, Found, Loaded};
+use crate::limits::{limits, limits_table};
 use crate::packed::edge::{Edge, ANY_LABEL};
 use crate::packed::plan::{Operator, Plan};
 use crate::picker::Picked;
@@ -42,12 +43,10 @@ pub fn explain(engine: &dyn Engine, loaded: &Loaded, found: &Found, memory: usiz
         out,
         "\nThe cost counts the entries of neighbour lists that were looked up; the longest bar is the operator to change."
     );
-    if let Ok(bounds) = engine.bounds(loaded.store(), &query, &found.plan_bytes) {
-        let Bounds { list_words, scratch_words, cost, largest } = bounds;
-        let _ = writeln!(
-            out,
-            "No run of it passes {list_words} words of list, {scratch_words} of scratch, cost {cost} and {largest} rows of an operator."
-        );
+    if let Some(limits) = limits(engine, loaded, found, memory) {
+        out.push('\n');
+        out.push_str(&limits_table(&limits));
+        out.push('\n');
     }
     if found.origin != Origin::Picked {
         if let Some(picked) = loaded.pick(&query, memory) {

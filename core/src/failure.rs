@@ -14,8 +14,8 @@ pub enum Failure {
     Usage(String),
     /// The engine refused.
     Refused { what: &'static str, refusal: Refusal },
-    /// A run that needs more memory than it may take.
-    Memory { scratch: usize, list: usize, memory: usize },
+    /// A run that needs more memory than it may take: so many words of scratch and list where its rows were counted, else more than these.
+    Memory { scratch: usize, list: usize, counted: bool, memory: usize },
     /// What was packed or listed is not what was read.
     Check(String),
 }
@@ -24,8 +24,19 @@ impl Failure {
     pub fn run(no_run: NoRun, memory: usize) -> Failure {
         match no_run {
             NoRun::Refused(refusal) => Failure::Refused { what: "the run", refusal },
-            NoRun::Memory { scratch, list } => Failure::Memory { scratch, list, memory },
+            NoRun::Memory { scratch, list, counted } => Failure::Memory { scratch, list, counted, memory },
         }
+    }
+}
+
+/// What a run that does not fit needs, in words.
+pub fn lacking(scratch: usize, list: usize, counted: bool, memory: usize) -> String {
+    let [scratch, list, memory] = [4 * scratch, 4 * list, memory].map(size);
+    match counted {
+        true => format!("the run needs {list} of list and {scratch} of scratch, which is more than the {memory} it may take"),
+        false => format!(
+            "the run needs more memory than the {memory} it may take: with {scratch} of scratch and {list} of list it did not fit"
+        ),
     }
 }
 
@@ -53,14 +64,11 @@ impl fmt::Display for Failure {
                     _ => Ok(()),
                 }
             }
-            Failure::Memory { scratch, list, memory } => write!(
+            Failure::Memory { scratch, list, counted, memory } => write!(
                 f,
-                "the run needs more memory than the {} it may take: with {} of scratch and {} of list it did not fit. \
-                 Give it more with --memory, or ask for less: name kinds, days or pairs, list mirror images --once, or try \
+                "{}. Give it more with --memory, or ask for less: name kinds, days or pairs, list mirror images --once, or try \
                  another --plan",
-                size(*memory),
-                size(4 * scratch),
-                size(4 * list)
+                lacking(*scratch, *list, *counted, *memory)
             ),
             Failure::Check(sentence) => write!(f, "the check of the answer failed, so there is no list: {sentence}"),
         }

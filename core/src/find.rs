@@ -3,7 +3,7 @@
 use std::borrow::Cow;
 
 use crate::document::{Document, Hang, Pattern};
-use crate::engine::{count_growing, run_growing, store_words, Engine, Ran, Record, PAGE_BYTES};
+use crate::engine::{count_growing, run_growing, store_words, Counted, Engine, First, Ran, Record, PAGE_BYTES};
 use crate::failure::Failure;
 use crate::packed::edge::Edge;
 use crate::packed::graph::Graph;
@@ -221,13 +221,30 @@ impl<'d> Loaded<'d> {
     ) -> Result<(Plan, Ran), Failure> {
         let plan = verify::plan(&planned.bytes, query).map_err(Failure::Check)?;
         let width = query.vertices.len();
-        let (store, plan_bytes, first) = (&self.store, &planned.bytes, planned.first());
+        let (store, plan_bytes) = (&self.store, &planned.bytes);
+        let first = match engine.bounds(store, query_bytes, plan_bytes) {
+            Ok(bounds) => planned.first().bounded(&bounds),
+            // Where they are refused, so is the run.
+            Err(_) => planned.first(),
+        };
         let counted = match counts {
             true => count_growing(engine, store, query_bytes, plan_bytes, memory, first),
             false => None,
         };
-        let ran = counted.unwrap_or_else(|| run_growing(engine, store, query_bytes, plan_bytes, width, memory, first));
+        let ran = match counted {
+            Some(counted) => {
+                counted.map(|Counted { answer, .. }| Ran { answer, list: Vec::new(), records: Vec::new() })
+            }
+            None => run_growing(engine, store, query_bytes, plan_bytes, width, memory, first),
+        };
         Ok((plan, ran.map_err(|no_run| Failure::run(no_run, memory))?))
+    }
+
+    /// The words of scratch that a run of what was found needs, where the engine counts.
+    pub fn need(&self, engine: &dyn Engine, found: &Found, memory: usize) -> Option<u64> {
+        let query = found.query.to_bytes();
+        let counted = count_growing(engine, &self.store, &query, &found.plan_bytes, memory, First::default());
+        counted?.ok().map(|counted| counted.need)
     }
 }
 

@@ -127,7 +127,7 @@ impl Kinds {
     }
 
     /// The names in their order, each with its number.
-    pub fn iter(&self) -> impl Iterator<Item = (&str, u32)> + '_ {
+    pub fn iter(&self) -> impl Iterator<Item = (&str, u32)> + Clone + '_ {
         self.names.iter().map(move |(i, name)| (name, self.numbers[i as usize]))
     }
 

@@ -11,6 +11,7 @@ pub mod failure;
 pub mod find;
 pub mod json;
 pub mod kinds;
+pub mod limits;
 pub mod names;
 pub mod names_file;
 pub mod near;

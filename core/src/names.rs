@@ -83,7 +83,7 @@ impl Names {
     }
 
     /// The names that there are, with their numbers.
-    pub fn iter(&self) -> impl Iterator<Item = (u32, &str)> + '_ {
+    pub fn iter(&self) -> impl Iterator<Item = (u32, &str)> + Clone + '_ {
         (0..self.spans.len() as u32).filter_map(move |i| self.get(i).map(|name| (i, name)))
     }
 

@@ -31,7 +31,7 @@ function unpacked(json) {
         chosen: Number.isInteger(saved.chosen) ? Math.max(0, Math.min(saved.chosen, saved.patterns.length - 1)) : 0,
         changes: isText(saved.changes) ? saved.changes : "",
         once: saved.once === true,
-        plan: ["best", "picked", "drawn", "given"].includes(saved.plan) ? saved.plan : "best",
+        plan: ["best", "picked", "drawn", "cheapest", "given"].includes(saved.plan) ? saved.plan : "best",
     });
     return true;
 }

@@ -75,7 +75,7 @@ async function readHang() {
 }
 
 /** A lane runs one thing at a time: a new one ends the old. */
-function lane(topic, shownAs) {
+function lane(topic, shownAs, engine = () => runs) {
     let current = null;
     function show(value) {
         state[shownAs] = value;
@@ -94,6 +94,12 @@ function lane(topic, shownAs) {
             control.abort();
             show({ cancelled: true, ms });
         },
+        /** Ends what runs, and shows nothing. */
+        drop() {
+            current?.control.abort();
+            current = null;
+            if (state[shownAs]) show(null);
+        },
         /** Runs `name` and gives the answer to `use`, whose result is shown. */
         async run(name, args, use) {
             const control = new AbortController();
@@ -106,7 +112,7 @@ function lane(topic, shownAs) {
             };
             try {
                 if (!state[shownAs]?.running) show({ running: true, ms: 0 });
-                const answer = await runs.call(name, args, { signal: control.signal, onTime });
+                const answer = await engine().call(name, args, { signal: control.signal, onTime });
                 const ms = performance.now() - mine.began;
                 if (isOld()) return;
                 const value = await use(answer, ms);
@@ -128,6 +134,10 @@ export const findLane = lane("found", "found");
 export const diffLane = lane("differs", "differs");
 export const rulesLane = lane("rules", "rules");
 export const workLane = lane("work", "work");
+
+// All orderings may take long, and nothing waits for them: they have an engine of their own, once they are asked for.
+let comparing = null;
+export const orderingsLane = lane("orderings", "orderings", () => (comparing ??= openEngine()));
 
 /** The rows of an answer as item numbers, one row after the other. */
 async function listOf(found) {

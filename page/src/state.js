@@ -14,6 +14,7 @@ export const state = {
     reading: null, // the answer of `read` for the hang, or null
     readingFailed: null, // a sentence where there was no answer
     found: null, // see runs.js
+    orderings: null, // all orderings of the pattern, compared
     place: -1, // the number of the chosen place, in the list's own order
 };
 

@@ -1,17 +1,19 @@
-// Where the work went: the plan in words and as a tree, rows and cost of each operator as bars.
+// Where the work went: the plan in words and as a tree, rows and cost of each operator as bars, bounds beside what came.
 
 import { byId, h, fill, shown, choice, count, duration, field, sentence, later, number } from "./dom.js";
 import { state, on, emit, chosenPattern } from "./state.js";
 import { patternArgs, workLane } from "./runs.js";
 import { isShown } from "./tabs.js";
+import { dropOrderings, runOrderings, startOrderings } from "./orderings.js";
 
 const PLANS = [
     ["best", "the text's, else a picked one"],
     ["picked", "picked"],
     ["drawn", "drawn by the engine"],
+    ["cheapest", "the cheapest ordering"],
     ["given", "the text's own"],
 ];
-const FROM = { given: "the plan of the text", picked: "a picked plan", drawn: "a drawn plan" };
+const FROM = { given: "the plan of the text", picked: "a picked plan", drawn: "a drawn plan", cheapest: "the cheapest ordering" };
 
 let isStale = true;
 
@@ -26,6 +28,7 @@ function run() {
         return;
     }
     workLane.run("explain", patternArgs(), (answer, ms) => ({ answer, ms }));
+    runOrderings();
 }
 
 function bar(value, most, name) {
@@ -51,6 +54,20 @@ function records(answer) {
     const head = ["Step", "Estimate", "Rows", "Lookups"].map((text) => h("th", { scope: "col" }, text));
     const body = h("tbody", {}, answer.records.map(line));
     return h("div", { class: "wide" }, h("table", { class: "records" }, h("thead", {}, h("tr", {}, head)), body));
+}
+
+/** What no run of the plan passes, beside what this one took. */
+function limits(answer) {
+    if (!answer.limits?.length) return null;
+    const bound = (value) => (value === null ? "past 64 bits" : number(value));
+    const line = ({ what, bound: most, took }) => h("tr", {},
+        h("th", { scope: "row" }, sentence(what).slice(0, -1)),
+        h("td", { class: "number" }, bound(most)),
+        h("td", { class: "number" }, took === null ? "" : number(took)));
+    const head = ["Any run of this plan", "At most", "This run"].map((text) => h("th", { scope: "col" }, text));
+    const table = h("table", { class: "limits" }, h("thead", {}, h("tr", {}, head)), h("tbody", {}, answer.limits.map(line)));
+    const promise = "With so many words set aside no run of this plan is refused for want of them.";
+    return [h("div", { class: "wide" }, table), answer.suffices ? h("p", { class: "hint" }, promise) : null];
 }
 
 function others(answer) {
@@ -86,6 +103,7 @@ function draw() {
         h("p", { class: "hint" }, "The longest bar of the lookups is the step that took the work."),
         h("pre", { class: "tree", tabindex: "0", "aria-label": "The plan as a tree" }, answer.tree ?? ""),
         others(answer),
+        limits(answer),
     );
 }
 
@@ -96,9 +114,11 @@ export function startWork() {
     } }, PLANS, state.plan);
     byId("plan-place").append(field("Plan", select));
     byId("work-cancel").addEventListener("click", () => workLane.cancel());
+    startOrderings();
     on("work", draw);
     on("brought patterns pattern hang options", () => {
         isStale = true;
+        dropOrderings();
         soon();
     });
     on("options", () => (select.value = state.plan));

@@ -80,6 +80,59 @@ class Calls(PageTest):
             self.assertEqual(len(answer["steps"]), len(answer["plan"]))
             self.assertIn(answer["tree"], printed)
             self.assertEqual(len(answer["others"]), 1)
+            self.assertIs(answer["suffices"], True)
+            took = {limit["what"]: limit["took"] for limit in answer["limits"]}
+            width = len(self.browser.call("csv", sources=rig(), pattern="over-people")["text"].splitlines()[0].split(","))
+            self.assertEqual((took["words of list"], took["cost"]), (width * answer["places"], answer["cost"]))
+            self.assertEqual(took["rows of an operator"], max(record["rows"] for record in answer["records"]))
+            for limit in answer["limits"]:
+                self.assertRegex(printed, rf"(?m)^{limit['what']} +{limit['bound']} +{limit['took']}$")
+                self.assertTrue(0 <= limit["took"] <= limit["bound"], limit)
+
+    def test_bounds_past_64_bits(self):
+        """Joins of joins, whose bounds multiply. No connection goes on from where another ends, so that nothing is listed."""
+        lines = ["[graph]", "vertices 60", *(f"{a} -1-> {b}" for a in range(30) for b in range(30, 60))]
+        lines += ["[query]", "vertices 8", *(f"{v} -1-> {v + 1}" for v in range(7)), "[plan]", "scan 0", *(word for v in range(1, 7) for word in (f"scan {v}", "join")), ""]
+        text = "\n".join(lines)
+        printed = program("explain", "-", "--memory", MEMORY, text=text)[1]
+        answer = self.browser.call("explain", sources=[{"name": "x", "text": text}], memory=MEMORY)
+        self.assertEqual(answer["text"], printed)
+        self.assertRegex(printed, r"(?m)^words of list +past 64 bits +0$")
+        bounds = {limit["what"]: limit["bound"] for limit in answer["limits"]}
+        self.assertEqual((bounds["words of list"], bounds["rows of an operator"], bounds["cost"]), (None, None, 0))
+        self.assertIs(answer["suffices"], False)
+
+    def test_orderings(self):
+        compared = 0
+        for path in sorted(EXAMPLES.glob("*/hang.txt")):
+            text = path.read_text() + (path.parent / "rules.txt").read_text() if (path.parent / "rules.txt").exists() else path.read_text()
+            sources = [{"name": "hang.txt", "text": text}]
+            for pattern in self.browser.call("read", sources=sources)["patterns"]:
+                asked = {"sources": sources, "pattern": pattern["title"], "memory": MEMORY}
+                answer = self.browser.call("orderings", **asked)
+                status, printed, _ = program("explain", "-", "--orderings", "-p", pattern["title"], "--plan", "drawn", "--memory", MEMORY, text=text)
+                self.assertEqual(status, 0)
+                lines = printed[printed.index(" of one scan and extends") :].split("\n\n")[1].splitlines()
+                words = lambda o: f"{', '.join(o['plan'])}{'  (' + ', '.join(o['marks']) + ')' if o['marks'] else ''}"
+                told = [(int(line.split()[0]), line[line.index("scan ") :]) for line in lines]
+                self.assertEqual([(o["cost"], words(o)) for o in answer["orderings"]], told, path)
+                for ordering in answer["orderings"]:
+                    self.assertEqual(sorted(ordering["vertices"]), sorted(v["name"] or str(i) for i, v in enumerate(pattern["vertices"])))
+                least = min(ordering["cost"] for ordering in answer["orderings"])
+                [cheapest] = [ordering for ordering in answer["orderings"] if "cheapest" in ordering["marks"]]
+                self.assertEqual(cheapest["cost"], least)
+                found = self.browser.find([{"name": "hang.txt", "text": text}], patterns=[pattern["title"]], plan="cheapest", memory=MEMORY)
+                self.assertEqual((found["cost"], found["planFrom"], found["plan"]), (least, "cheapest", cheapest["plan"]))
+                compared += 1
+        self.assertGreaterEqual(compared, 8)
+
+    def test_no_orderings_of_six_items(self):
+        text = "\n".join(["[graph]", "vertices 6", *(f"{v} -1-> {v + 1}" for v in range(5)), "[query]", "vertices 6", *(f"{v} -1-> {v + 1}" for v in range(5)), ""])
+        answer = self.browser.call("orderings", sources=[{"name": "x", "text": text}])
+        self.assertEqual((answer["orderings"], answer["why"]), ([], "all orderings are compared for patterns of at most 5 items, and this one has 6"))
+        printed = program("explain", "-", "--orderings", text=text)[1]
+        self.assertTrue(printed.endswith(f"\nNo orderings: {answer['why']}.\n"), printed)
+        self.assertIn("with 31", self.browser.find(text, plan="cheapest")["refused"])
 
     def test_text_of_tables(self):
         tables = [RIG / "items.csv", RIG / "connections.csv"]

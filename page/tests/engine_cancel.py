@@ -64,9 +64,10 @@ class Cancel(PageTest):
         answer = self.browser.call("find", sources=[{"name": "x", "text": text}], memory=1_000_000)
         [found] = answer["patterns"]
         self.assertNotIn("rows", found)
-        self.assertIn("needs more memory than the 1000 KB", found["error"]["reason"])
+        # 60 · 59 · 58 · 57 rows of 4 words.
+        self.assertRegex(found["error"]["reason"], r"^the run needs 187 MB of list and \d+ bytes of scratch, which is more than the 1000 KB it may take\. Ask for less")
         self.assertNotIn("--", found["error"]["reason"])
-        self.assertIn("memory", self.browser.find(text, memory=1_000_000)["refused"])
+        self.assertIn("needs 187 MB of list", self.browser.find(text, memory=1_000_000)["refused"])
         answer = self.browser.call("find", sources=[{"name": "x", "text": text}], countOnly=True)
         self.assertEqual(answer["patterns"][0]["places"], 60 * 59 * 58 * 57)
 

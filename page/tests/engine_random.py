@@ -9,7 +9,7 @@ from harness import PageTest, program
 
 HANGS = 500
 MEMORY = 2_000_000_000
-PLANS = ["drawn", "drawn", "picked", "best"]
+PLANS = ["drawn", "drawn", "picked", "best", "cheapest"]
 
 
 def native(text, plan, once):

@@ -44,7 +44,7 @@ class Look:
                 self.page.tap("[data-vertex='0'] .shape")
                 self.page.until(lambda: self.page.is_seen("#pattern-form [data-key=remove]"), "the form")
             if part == "work":
-                self.page.until(lambda: self.page.all("#work .records"), "the records")
+                self.page.until(lambda: self.page.all("#work .records") and self.page.all("#spectrum .dot"), "records and orderings")
             if part == "changes":
                 self.page.until(lambda: self.page.all("#diff-sorts button"), "the lists")
             yield part

@@ -5,6 +5,8 @@ use std::fs;
 use std::path::{Path, PathBuf};
 use std::process::{Command, Output};
 
+use serde_json::Value;
+
 /// An empty folder of its own for a test.
 pub fn folder(test: &str) -> PathBuf {
     let path = Path::new(env!("CARGO_TARGET_TMPDIR")).join(test);
@@ -28,6 +30,20 @@ pub fn run(dir: &Path, arguments: &[&str]) -> (i32, String, String) {
 pub fn told(output: Output) -> (i32, String, String) {
     let text = |bytes| String::from_utf8(bytes).unwrap();
     (output.status.code().unwrap(), text(output.stdout), text(output.stderr))
+}
+
+/// The patterns that `--json` prints: one object, or several in one.
+pub fn patterns(out: &str) -> Vec<Value> {
+    let value: Value = serde_json::from_str(out).unwrap_or_else(|e| panic!("{e}: {out}"));
+    let several = value["patterns"].as_array().cloned();
+    several.unwrap_or_else(|| vec![value])
+}
+
+/// The rows of a pattern in an order of their own: plans list the same ones in different orders.
+pub fn rows(found: &Value) -> Vec<String> {
+    let mut rows: Vec<String> = found["rows"].as_array().unwrap().iter().map(Value::to_string).collect();
+    rows.sort();
+    rows
 }
 
 /// The folders of the shipped examples.

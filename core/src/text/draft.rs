@@ -9,6 +9,9 @@ use crate::source::Text;
 use crate::text::fault::{Fault, Faults, Place};
 use crate::text::words::Word;
 
+/// Where a word is near to no name, and there are no more names than this, they are listed.
+const FEW_NAMES: usize = 8;
+
 /// A word and the text that it stands in.
 #[derive(Clone, Copy, Debug)]
 pub struct At {
@@ -133,12 +136,20 @@ impl<'t> Draft<'t> {
     }
 
     /// An error about a word that is not among some names.
-    pub fn unknown<'n>(&mut self, place: Place, reason: String, word: &str, names: impl Iterator<Item = &'n str>) {
-        let near = if self.faults.is_short() { nearest(word, names) } else { None };
+    pub fn unknown<'n>(
+        &mut self,
+        place: Place,
+        reason: String,
+        word: &str,
+        names: impl Iterator<Item = &'n str> + Clone,
+    ) {
+        let near = if self.faults.is_short() { nearest(word, names.clone()) } else { None };
         let fault = Fault::error(place, reason);
+        let few: Vec<String> = names.take(FEW_NAMES + 1).map(|name| format!("'{name}'")).collect();
         self.faults.push(match near {
             Some(near) => fault.help(format!("did you mean '{near}'?")),
-            None => fault,
+            None if few.is_empty() || few.len() > FEW_NAMES => fault,
+            None => fault.help(format!("write one of {}", few.join(", "))),
         });
     }
 

@@ -1,6 +1,6 @@
 //! What a call is given, and how its answer is written.
 
-use rizhavaan_core::failure::size;
+use rizhavaan_core::failure::lacking;
 use rizhavaan_core::json::fault;
 use rizhavaan_core::source::Text;
 use rizhavaan_core::text::fault::Severity;
@@ -52,12 +52,9 @@ impl No {
 /// A failure in words that fit a page, where there is no command line.
 fn words(failure: &Failure) -> String {
     match failure {
-        Failure::Memory { scratch, list, memory } => format!(
-            "the run needs more memory than the {} that it may take: with {} of scratch and {} of list it did not fit. \
-             Ask for less: name kinds or days, or take mirror images once",
-            size(*memory),
-            size(4 * scratch),
-            size(4 * list)
+        Failure::Memory { scratch, list, counted, memory } => format!(
+            "{}. Ask for less: name kinds or days, or take mirror images once",
+            lacking(*scratch, *list, *counted, *memory)
         ),
         other => other.to_string(),
     }
@@ -78,6 +75,7 @@ impl Call<'_> {
             Some("given") => Choice::Given,
             Some("picked") => Choice::Picked,
             Some("drawn") => Choice::Drawn,
+            Some("cheapest") => Choice::Cheapest,
             Some(other) => return Err(No::because(format!("there is no plan '{other}'"))),
         };
         let memory = self.args["memory"].as_u64().map_or(MEMORY, |bytes| bytes.min(MOST_MEMORY) as usize);

@@ -76,6 +76,7 @@ fn answered(asked: &[u8], sources: &[Source], lists: &mut Vec<Vec<u32>>) -> Answ
         "check" => runs::check(&call),
         "diff" => runs::diff(&call),
         "explain" => work::explain(&call),
+        "orderings" => work::orderings(&call),
         "pattern" => text::pattern(&call),
         "write_pattern" => text::write_pattern(&call),
         "sheets" => take::sheets(&call),

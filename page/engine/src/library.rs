@@ -2,7 +2,7 @@
 //!
 //! A length has 64 bits there on every target, a pointer as many as the target's.
 
-use rizhavaan_core::engine::{Answer, Bounds, Engine, Record, Refusal};
+use rizhavaan_core::engine::{Answer, Bounds, Counted, Engine, Record, Refusal};
 
 extern "C" {
     fn rizhavaan_load(
@@ -259,8 +259,8 @@ impl Engine for Library {
         accepted(status, plans)
     }
 
-    fn count(&self, store: &[u32], query: &[u8], plan: &[u8], scratch: &mut [u32]) -> Option<Result<Answer, Refusal>> {
-        let (mut answer, mut need) = (Answer::default(), 0);
+    fn count(&self, store: &[u32], query: &[u8], plan: &[u8], scratch: &mut [u32]) -> Option<Result<Counted, Refusal>> {
+        let Counted { mut answer, mut need } = Counted::default();
         let status = unsafe {
             rizhavaan_count(
                 store.as_ptr(),
@@ -279,6 +279,6 @@ impl Engine for Library {
                 &mut need,
             )
         };
-        Some(accepted(status, answer))
+        Some(accepted(status, Counted { answer, need }))
     }
 }
