@@ -158,7 +158,7 @@ pub fn hint(found: &Found, with_title: bool) {
         tell(&format!("{title}{sentence}"));
     }
     if !found.added.is_empty() {
-        let pairs = pair_words(found.pattern, &found.added).join(", ");
+        let pairs = pair_words(&found.pattern, &found.added).join(", ");
         tell(&format!("{title}mirror images once, by {pairs}"));
     } else if found.images > 1 && found.places() > 0 {
         tell(&format!(

@@ -17,7 +17,7 @@ use crate::plans::Origin;
 pub fn explain(engine: &dyn Engine, loaded: &Loaded, found: &Found, memory: usize) -> Result<String, Failure> {
     let mut out = String::new();
     let document = loaded.document;
-    let pattern = found.pattern;
+    let pattern = &found.pattern;
     let from = match found.origin {
         Origin::Given => "the plan of the text",
         Origin::Picked => "the plan that was picked",
@@ -102,7 +102,7 @@ fn beside(out: &mut String, document: &Document, found: &Found, word: &str, ran:
     };
     let operators = plan.operators.iter().zip(&other.operators);
     let steps: Vec<String> = operators
-        .map(|(&operator, thought)| format!("{} ({} rows)", document.operator(found.pattern, operator), rows(thought.rows)))
+        .map(|(&operator, thought)| format!("{} ({} rows)", document.operator(&found.pattern, operator), rows(thought.rows)))
         .collect();
     let time = ran.filter(|ran| ran.time > 0.0).map_or_else(String::new, |ran| {
         let ratio = other.time / ran.time;
@@ -123,7 +123,7 @@ type Covered = Vec<u32>;
 
 /// A sentence for each operator.
 pub fn steps(document: &Document, found: &Found) -> Vec<String> {
-    let pattern = found.pattern;
+    let pattern = &found.pattern;
     let query = &found.query;
     let list = |vertices: &[u32]| vertices.iter().map(|&v| pattern.vertex(v)).collect::<Vec<_>>().join(", ");
     let mut pile: Vec<Covered> = Vec::new();
@@ -172,7 +172,7 @@ fn between(document: &Document, pattern: &Pattern, edges: &[Edge], v: u32, cover
 pub fn tree(document: &Document, found: &Found) -> String {
     let mut pile: Vec<Vec<String>> = Vec::new();
     for &operator in &found.plan.operators {
-        let mut lines = vec![document.operator(found.pattern, operator)];
+        let mut lines = vec![document.operator(&found.pattern, operator)];
         let operands = match operator {
             Operator::Scan(_) => 0,
             Operator::Extend(_) => 1,
@@ -199,7 +199,7 @@ pub fn tree(document: &Document, found: &Found) -> String {
 pub(crate) const BAR: u64 = 24;
 
 fn bars(out: &mut String, document: &Document, found: &Found, estimate: Option<&Picked>) {
-    let names: Vec<String> = found.plan.operators.iter().map(|&o| document.operator(found.pattern, o)).collect();
+    let names: Vec<String> = found.plan.operators.iter().map(|&o| document.operator(&found.pattern, o)).collect();
     let thought = |i: usize| estimate.and_then(|e| e.operators.get(i)).map_or_else(String::new, |o| rows(o.rows));
     let width = names.iter().map(|n| n.chars().count()).max().unwrap_or(0).max("operator".len());
     let most_rows = found.records.iter().map(|r| r.rows).max().unwrap_or(0);

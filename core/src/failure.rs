@@ -27,6 +27,15 @@ impl Failure {
             NoRun::Memory { scratch, list, counted } => Failure::Memory { scratch, list, counted, memory },
         }
     }
+
+    /// The engine's refusal, given or foreseen.
+    pub fn refusal(&self) -> Option<Refusal> {
+        match self {
+            Failure::Refused { refusal, .. } => Some(*refusal),
+            Failure::At(fault) => fault.refusal.map(|number| Refusal(number.into())),
+            _ => None,
+        }
+    }
 }
 
 /// What a run that does not fit needs, in words.

@@ -1,6 +1,6 @@
 //! From a document to the places of its patterns.
 
-use std::borrow::Cow;
+use std::sync::Arc;
 
 use crate::document::{Document, Hang, Pattern};
 use crate::engine::{count_growing, run_growing, store_words, Counted, Engine, First, Ran, Record, PAGE_BYTES};
@@ -37,16 +37,21 @@ impl Default for Options {
 pub struct Loaded<'d> {
     pub document: &'d Document,
     pub hang: &'d Hang,
+    pub(crate) kept: Arc<Kept>,
+}
+
+/// What a loaded hang has beside its document: who keeps both has it loaded again at no cost.
+pub struct Kept {
     store: Vec<u32>,
-    /// The connections that the store has.
-    edges: Cow<'d, [Edge]>,
+    /// The connections that the store has, where they are not the document's.
+    edges: Option<Vec<Edge>>,
     pub(crate) known: Known,
 }
 
 /// The places of a pattern.
 #[derive(Clone, Debug)]
-pub struct Found<'d> {
-    pub pattern: &'d Pattern,
+pub struct Found {
+    pub pattern: Pattern,
     /// The pattern as it was run, with the pairs that were added.
     pub query: Query,
     /// Pairs that were added so that mirror images are listed once.
@@ -67,7 +72,7 @@ pub struct Found<'d> {
     pub records: Vec<Record>,
 }
 
-impl Found<'_> {
+impl Found {
     pub fn width(&self) -> usize {
         self.query.vertices.len()
     }
@@ -88,15 +93,34 @@ impl Found<'_> {
     pub fn rows(&self) -> std::slice::ChunksExact<'_, u32> {
         self.rows.chunks_exact(self.width())
     }
+
+    /// The same with some of its rows.
+    pub fn part(&self, rows: Vec<u32>) -> Found {
+        Found {
+            places: rows.len() / self.width(),
+            rows,
+            pattern: self.pattern.clone(),
+            query: self.query.clone(),
+            added: self.added.clone(),
+            plan: self.plan.clone(),
+            plan_bytes: self.plan_bytes.clone(),
+            estimate: self.estimate.clone(),
+            records: self.records.clone(),
+            ..*self
+        }
+    }
+}
+
+/// The hang of a document.
+fn hang_of(document: &Document) -> Result<&Hang, Failure> {
+    let hang = document.hang.as_ref();
+    hang.ok_or_else(|| Failure::Usage("there is no hang: no [graph] and no table of items".into()))
 }
 
 impl<'d> Loaded<'d> {
     /// Loads the hang of a document.
     pub fn load(engine: &dyn Engine, document: &'d Document) -> Result<Loaded<'d>, Failure> {
-        let hang = match &document.hang {
-            Some(hang) => hang,
-            None => return Err(Failure::Usage("there is no hang: no [graph] and no table of items".into())),
-        };
+        let hang = hang_of(document)?;
         let bytes = hang.graph.to_bytes();
         verify::graph(&bytes, &hang.graph).map_err(Failure::Check)?;
         let (n, m) = (hang.graph.vertices.len(), hang.graph.edges.len());
@@ -106,7 +130,16 @@ impl<'d> Loaded<'d> {
         if counts != (n as u64, m as u64) {
             return Err(Failure::Check(format!("of {n} items and {m} connections the engine loaded {counts:?}")));
         }
-        Ok(Loaded { document, hang, store, edges: Cow::Borrowed(&hang.graph.edges), known: Known::default() })
+        Ok(Loaded { document, hang, kept: Arc::new(Kept { store, edges: None, known: Known::default() }) })
+    }
+
+    /// A hang that was loaded before, by its document and what was kept of it then.
+    pub fn again(document: &'d Document, kept: &Arc<Kept>) -> Result<Loaded<'d>, Failure> {
+        Ok(Loaded { document, hang: hang_of(document)?, kept: kept.clone() })
+    }
+
+    pub fn kept(&self) -> Arc<Kept> {
+        self.kept.clone()
     }
 
     /// The hang after the changes of the document.
@@ -124,9 +157,9 @@ impl<'d> Loaded<'d> {
         if unpacked.ok().as_ref() != Some(changes) {
             return Err(Failure::Check("the packed changes unpack to others".into()));
         }
-        let edges = changes.applied(&self.edges);
+        let edges = changes.applied(self.edges());
         let mut store = vec![0; store_words(self.hang.graph.vertices.len(), edges.len())];
-        let applied = engine.apply_changes(&self.store, &bytes, &mut store);
+        let applied = engine.apply_changes(self.store(), &bytes, &mut store);
         let counts = applied.map_err(|refusal| Failure::Refused { what: "the changes", refusal })?;
         let expected = (self.hang.graph.vertices.len() as u64, edges.len() as u64);
         if counts != expected {
@@ -134,45 +167,54 @@ impl<'d> Loaded<'d> {
                 "the changed hang has {counts:?} items and connections, not {expected:?}"
             )));
         }
-        Ok(Loaded { document, hang: self.hang, store, edges: Cow::Owned(edges), known: Known::default() })
+        let kept = Kept { store, edges: Some(edges), known: Known::default() };
+        Ok(Loaded { document, hang: self.hang, kept: Arc::new(kept) })
+    }
+
+    /// The hang after the changes of the document as one of its own: a document without changes, and what is
+    /// kept of it.
+    pub fn changed_document(&self, engine: &dyn Engine) -> Result<(Document, Arc<Kept>), Failure> {
+        let after = self.changed(engine)?;
+        let mut document = self.document.clone();
+        if let Some(hang) = &mut document.hang {
+            hang.graph = after.graph();
+        }
+        document.changes = None;
+        document.changes_fault = None;
+        Ok((document, after.kept()))
     }
 
     /// The graph that was loaded.
     pub fn graph(&self) -> Graph {
-        Graph { vertices: self.hang.graph.vertices.clone(), edges: self.edges.to_vec() }
+        Graph { vertices: self.hang.graph.vertices.clone(), edges: self.edges().to_vec() }
     }
 
     pub fn edges(&self) -> &[Edge] {
-        &self.edges
+        self.kept.edges.as_ref().unwrap_or(&self.hang.graph.edges)
     }
 
     /// The words of the store.
     pub fn store(&self) -> &[u32] {
-        &self.store
+        &self.kept.store
     }
 
     /// Finds the places of a pattern, and tests them.
-    pub fn find<'p>(&self, engine: &dyn Engine, pattern: &'p Pattern, options: &Options) -> Result<Found<'p>, Failure> {
+    pub fn find(&self, engine: &dyn Engine, pattern: &Pattern, options: &Options) -> Result<Found, Failure> {
         self.find_by(engine, pattern, options, options.count_only)
     }
 
     /// Finds the places of a pattern, always by a run, which records what each operator did.
-    pub fn find_recorded<'p>(
-        &self,
-        engine: &dyn Engine,
-        pattern: &'p Pattern,
-        options: &Options,
-    ) -> Result<Found<'p>, Failure> {
+    pub fn find_recorded(&self, engine: &dyn Engine, pattern: &Pattern, options: &Options) -> Result<Found, Failure> {
         self.find_by(engine, pattern, options, false)
     }
 
-    fn find_by<'p>(
+    fn find_by(
         &self,
         engine: &dyn Engine,
-        pattern: &'p Pattern,
+        pattern: &Pattern,
         options: &Options,
         counts: bool,
-    ) -> Result<Found<'p>, Failure> {
+    ) -> Result<Found, Failure> {
         if let Some(fault) = &pattern.fault {
             return Err(Failure::At(Box::new(fault.clone())));
         }
@@ -187,12 +229,12 @@ impl<'d> Loaded<'d> {
         }
         let (plan, ran) = ran?;
         if !options.count_only {
-            let mut test = verify::Rows::new(self.document, self.hang, pattern, &query, &self.edges);
+            let mut test = verify::Rows::new(self.document, self.hang, pattern, &query, self.edges());
             test.test(&ran.list).map_err(Failure::Check)?;
         }
         let images = symmetry::exchanges(&query).len();
         Ok(Found {
-            pattern,
+            pattern: pattern.clone(),
             added,
             images,
             records: ran.records.into_iter().take(plan.operators.len()).collect(),
@@ -221,7 +263,7 @@ impl<'d> Loaded<'d> {
     ) -> Result<(Plan, Ran), Failure> {
         let plan = verify::plan(&planned.bytes, query).map_err(Failure::Check)?;
         let width = query.vertices.len();
-        let (store, plan_bytes) = (&self.store, &planned.bytes);
+        let (store, plan_bytes) = (self.store(), &planned.bytes);
         let first = match engine.bounds(store, query_bytes, plan_bytes) {
             Ok(bounds) => planned.first().bounded(&bounds),
             // Where they are refused, so is the run.
@@ -243,7 +285,7 @@ impl<'d> Loaded<'d> {
     /// The words of scratch that a run of what was found needs, where the engine counts.
     pub fn need(&self, engine: &dyn Engine, found: &Found, memory: usize) -> Option<u64> {
         let query = found.query.to_bytes();
-        let counted = count_growing(engine, &self.store, &query, &found.plan_bytes, memory, First::default());
+        let counted = count_growing(engine, self.store(), &query, &found.plan_bytes, memory, First::default());
         counted?.ok().map(|counted| counted.need)
     }
 }

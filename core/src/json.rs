@@ -1,5 +1,10 @@
 //! Answers and faults as JSON.
 
+pub mod items;
+pub mod kind;
+pub mod pattern;
+pub mod written;
+
 use serde::ser::{Serialize, SerializeMap, SerializeSeq, Serializer};
 
 use crate::document::{Document, Pattern};
@@ -15,7 +20,7 @@ use crate::text::read;
 /// The places of a pattern, with the names of its document.
 pub struct FoundJson<'a> {
     pub loaded: &'a Loaded<'a>,
-    pub found: &'a Found<'a>,
+    pub found: &'a Found,
     /// The rows are listed, and not left out.
     pub list: bool,
 }
@@ -24,7 +29,7 @@ impl Serialize for FoundJson<'_> {
     fn serialize<S: Serializer>(&self, serializer: S) -> Result<S::Ok, S::Error> {
         let FoundJson { loaded, found, list } = self;
         let document = loaded.document;
-        let pattern = found.pattern;
+        let pattern = &found.pattern;
         let mut map = serializer.serialize_map(None)?;
         map.serialize_entry("pattern", &pattern.name)?;
         map.serialize_entry("sentence", &pattern.sentence)?;
@@ -81,7 +86,7 @@ impl Serialize for RecordsJson<'_> {
         let mut records = serializer.serialize_seq(Some(found.records.len()))?;
         for (record, &operator) in found.records.iter().zip(&found.plan.operators) {
             records.serialize_element(&serde_json::json!({
-                "operator": loaded.document.operator(found.pattern, operator),
+                "operator": loaded.document.operator(&found.pattern, operator),
                 "rows": record.rows,
                 "cost": record.cost,
             }))?;

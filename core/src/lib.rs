@@ -1,6 +1,7 @@
 //! Text form, tables, names and checks around the proved engine, for the program and the page. It reads no file and prints
 //! nothing: a shell hands over [`Source`]s and an [`Engine`], and is handed answers, or faults with their places.
 
+pub mod arrays;
 pub mod day;
 pub mod diff;
 pub mod document;
@@ -34,8 +35,8 @@ pub mod write;
 pub use document::{Document, Pattern};
 pub use engine::Engine;
 pub use failure::Failure;
-pub use find::{chosen, Found, Loaded, Options};
+pub use find::{chosen, Found, Kept, Loaded, Options};
 pub use json::find_json;
 pub use plans::{Choice, Origin};
 pub use source::Source;
-pub use text::{read, Reading};
+pub use text::{read, read_changes, read_patterns, Reading};

@@ -1,4 +1,6 @@
-//! A hang as a picture, described for Graphviz: what carries stands above what it carries.
+//! A hang as a picture, described for Graphviz or drawn: what carries stands above what it carries.
+
+mod svg;
 
 use std::collections::HashSet;
 use std::fmt::Write;
@@ -45,41 +47,63 @@ impl Marks {
     }
 }
 
-/// The hang in Graphviz's language, with the places of a pattern marked. Of more than [`MOST`] items only the marked ones and their
-/// neighbours are drawn, unless all are asked for.
+/// What is drawn of a hang.
+pub struct Drawing<'d> {
+    document: &'d Document,
+    hang: &'d Hang,
+    /// Ascending.
+    items: Vec<u32>,
+    /// Those that join drawn items.
+    edges: Vec<&'d Edge>,
+    marks: Marks,
+    caption: String,
+}
+
+/// The hang in Graphviz's language, with the places of a pattern marked.
 pub fn dot(document: &Document, hang: &Hang, found: Option<&Found>, all: bool) -> String {
-    let edges = &hang.graph.edges;
-    let count = hang.graph.vertices.len();
-    let in_part = count > MOST && !all;
-    let marks = Marks::of(edges, found, if in_part { MOST } else { usize::MAX });
-    let drawn: Vec<u32> = if in_part { neighbours(edges, &marks) } else { (0..count as u32).collect() };
-    let is_drawn: HashSet<u32> = drawn.iter().copied().collect();
-    let mut out = String::from(
-        "digraph hang {\n  rankdir=TB;\n  node [shape=box, style=filled, fontname=\"sans-serif\", fontsize=11];\n  \
-         edge [fontname=\"sans-serif\", fontsize=9, color=\"#666666\"];\n",
-    );
-    let _ = writeln!(
-        out,
-        "  labelloc=t;\n  fontname=\"sans-serif\";\n  label={};",
-        text(&caption(found, count, drawn.len()))
-    );
-    for &item in &drawn {
-        let vertex = &hang.graph.vertices[item as usize];
-        let name = hang.item(item);
-        let label = match vertex.label {
-            0 => name.into_owned(),
-            kind => format!("{name}\n{}", document.item_kind(kind)),
-        };
-        let mark = if marks.items.contains(&item) { ", color=\"#cc0000\", penwidth=3" } else { "" };
-        let _ = writeln!(out, "  n{item} [label={}, fillcolor=\"{}\"{mark}];", text(&label), colour(vertex.label));
+    Drawing::of(document, hang, found, all).dot()
+}
+
+impl<'d> Drawing<'d> {
+    /// A hang with the places of a pattern marked. Of more than [`MOST`] items only the marked ones and their
+    /// neighbours are drawn, unless all are asked for.
+    pub fn of(document: &'d Document, hang: &'d Hang, found: Option<&Found>, all: bool) -> Drawing<'d> {
+        let edges = &hang.graph.edges;
+        let count = hang.graph.vertices.len();
+        let in_part = count > MOST && !all;
+        let marks = Marks::of(edges, found, if in_part { MOST } else { usize::MAX });
+        let items: Vec<u32> = if in_part { neighbours(edges, &marks) } else { (0..count as u32).collect() };
+        let is_drawn: HashSet<u32> = items.iter().copied().collect();
+        let drawn = |e: &&Edge| is_drawn.contains(&e.source) && is_drawn.contains(&e.target);
+        let caption = caption(found, count, items.len());
+        Drawing { document, hang, edges: edges.iter().filter(drawn).collect(), items, marks, caption }
     }
-    for e in edges.iter().filter(|e| is_drawn.contains(&e.source) && is_drawn.contains(&e.target)) {
-        let mark = if marks.edges.contains(e) { ", color=\"#cc0000\", penwidth=2" } else { "" };
-        let kind = document.connection_kind(e.label);
-        let _ = writeln!(out, "  n{} -> n{} [label={}{mark}];", e.source, e.target, text(&kind));
+
+    /// In Graphviz's language.
+    pub fn dot(&self) -> String {
+        let mut out = String::from(
+            "digraph hang {\n  rankdir=TB;\n  node [shape=box, style=filled, fontname=\"sans-serif\", fontsize=11];\n  \
+             edge [fontname=\"sans-serif\", fontsize=9, color=\"#666666\"];\n",
+        );
+        let _ = writeln!(out, "  labelloc=t;\n  fontname=\"sans-serif\";\n  label={};", text(&self.caption));
+        for &item in &self.items {
+            let vertex = &self.hang.graph.vertices[item as usize];
+            let name = self.hang.item(item);
+            let label = match vertex.label {
+                0 => name.into_owned(),
+                kind => format!("{name}\n{}", self.document.item_kind(kind)),
+            };
+            let mark = if self.marks.items.contains(&item) { ", color=\"#cc0000\", penwidth=3" } else { "" };
+            let _ = writeln!(out, "  n{item} [label={}, fillcolor=\"{}\"{mark}];", text(&label), colour(vertex.label));
+        }
+        for e in &self.edges {
+            let mark = if self.marks.edges.contains(*e) { ", color=\"#cc0000\", penwidth=2" } else { "" };
+            let kind = self.document.connection_kind(e.label);
+            let _ = writeln!(out, "  n{} -> n{} [label={}{mark}];", e.source, e.target, text(&kind));
+        }
+        out.push_str("}\n");
+        out
     }
-    out.push_str("}\n");
-    out
 }
 
 fn colour(label: u32) -> &'static str {

@@ -82,12 +82,12 @@ impl Loaded<'_> {
     /// The plan picker's plan of a packed query, where a run may take so many bytes.
     pub fn pick(&self, query: &[u8], memory: usize) -> Option<Picked> {
         let lent = (memory / 4).min(MAX_WORDS) as u64;
-        picker::pick(self.store(), &*self.known.of(self.store())?, query, lent)
+        picker::pick(self.store(), &*self.kept.known.of(self.store())?, query, lent)
     }
 
     /// What the plan picker thinks of a plan that is accepted.
     pub fn estimate(&self, query: &[u8], plan: &[u8]) -> Option<Picked> {
-        picker::estimate(self.store(), &*self.known.of(self.store())?, query, plan)
+        picker::estimate(self.store(), &*self.kept.known.of(self.store())?, query, plan)
     }
 
     /// The engine's drawn plan of a packed query.

@@ -11,7 +11,7 @@ use crate::packed::query;
 
 /// The first thing that no item, or no pair of items, of the hang has; else the operator that found nothing.
 pub fn why(loaded: &Loaded, found: &Found) -> String {
-    let pattern = found.pattern;
+    let pattern = &found.pattern;
     let document = loaded.document;
     let items = &loaded.hang.graph.vertices;
     for (v, asked) in found.query.vertices.iter().enumerate() {

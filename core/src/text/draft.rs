@@ -90,6 +90,8 @@ pub struct Draft<'t> {
     /// Where `[graph]` stands.
     pub graph_head: Option<Place>,
     pub from_tables: bool,
+    /// The texts are read beside a hang that was read before.
+    pub is_beside: bool,
     pub items: Vec<DraftItem>,
     pub names: Names,
     pub numbered_days: Vec<u32>,
@@ -111,6 +113,7 @@ impl<'t> Draft<'t> {
             connection_kinds: Kinds::default(),
             graph_head: None,
             from_tables: false,
+            is_beside: false,
             items: Vec::new(),
             names: Names::default(),
             numbered_days: Vec::new(),

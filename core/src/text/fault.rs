@@ -26,11 +26,13 @@ pub struct Fault {
     pub reason: String,
     /// What to write instead, if anything is near.
     pub help: Option<String>,
+    /// The number that the engine refuses it with, where it is well formed and refused all the same.
+    pub refusal: Option<u8>,
 }
 
 impl Fault {
     pub fn error(place: Place, reason: impl Into<String>) -> Fault {
-        Fault { severity: Severity::Error, place, reason: reason.into(), help: None }
+        Fault { severity: Severity::Error, place, reason: reason.into(), help: None, refusal: None }
     }
 
     pub fn warning(place: Place, reason: impl Into<String>) -> Fault {

@@ -242,12 +242,12 @@ impl Draft<'_> {
     pub fn no_kind(&mut self, document: &Document, name: &str, at: Place, is_item: bool) {
         let kinds = if is_item { &document.item_kinds } else { &document.connection_kinds };
         let what = if is_item { "item" } else { "connection" };
-        let reason =
-            match (kinds.is_declared(), document.hang.is_some() || self.graph_head.is_some() || self.from_tables) {
-                (true, _) => format!("no kind of {what} '{name}' is declared in [kinds]"),
-                (false, true) => format!("no {what} of kind '{name}' is in the hang"),
-                (false, false) => format!("no kind of {what} '{name}' is known: there is no hang, and no [kinds]"),
-            };
+        let has_hang = self.is_beside || document.hang.is_some() || self.graph_head.is_some() || self.from_tables;
+        let reason = match (kinds.is_declared(), has_hang) {
+            (true, _) => format!("no kind of {what} '{name}' is declared in [kinds]"),
+            (false, true) => format!("no {what} of kind '{name}' is in the hang"),
+            (false, false) => format!("no kind of {what} '{name}' is known: there is no hang, and no [kinds]"),
+        };
         self.unknown(at, reason, name, kinds.iter().map(|(name, _)| name).chain(Some(ANY)));
     }
 
@@ -269,7 +269,8 @@ fn whole(draft: &DraftEdge) -> Place {
 
 /// What the engine refuses although it is well formed.
 pub fn refused(at: Place, refusal: u8, reason: &str) -> Fault {
-    Fault::warning(at, format!("{reason}; the engine will refuse this with {refusal}"))
+    let fault = Fault::warning(at, format!("{reason}; the engine will refuse this with {refusal}"));
+    Fault { refusal: Some(refusal), ..fault }
 }
 
 const EXPECTED_CHANGE: &str =

@@ -1,17 +1,13 @@
 //! `read`: the hang, its kinds, patterns and changes.
 
-use std::collections::BTreeMap;
-
-use rizhavaan_core::day::Day;
-use rizhavaan_core::document::Hang;
+use rizhavaan_core::json::items::Items;
+use rizhavaan_core::json::kind::{Kind, Listed};
+use rizhavaan_core::json::pattern::PatternJson;
 use rizhavaan_core::json::{fault, summary};
 use rizhavaan_core::{Document, Reading};
-use serde::ser::{Serialize, SerializeMap, Serializer};
 use serde_json::{json, Value};
 
 use crate::call::{Answer, Call, Object};
-use crate::kind::{day, Kind, Listed};
-use crate::pattern::PatternJson;
 
 pub fn read(call: &mut Call) -> Answer {
     let mut connections = None;
@@ -67,51 +63,4 @@ fn add(answer: &mut Object, reading: &Reading, document: &Document) -> Option<Ve
     answer.put("changesFault", &document.changes_fault.as_ref().map(|f| fault(&reading.texts, f)));
     let index = kinds.indices();
     hang.map(|_| edges.iter().flat_map(|e| [e.source, e.target, index[e.label as usize]]).collect())
-}
-
-struct Items<'d> {
-    document: &'d Document,
-    hang: &'d Hang,
-}
-
-struct Item<'d> {
-    of: &'d Items<'d>,
-    number: u32,
-    notes: &'d [(u32, u32, String)],
-}
-
-impl Serialize for Items<'_> {
-    fn serialize<S: Serializer>(&self, serializer: S) -> Result<S::Ok, S::Error> {
-        let mut left = &self.hang.notes.notes[..];
-        serializer.collect_seq((0..self.hang.graph.vertices.len() as u32).map(|number| {
-            // Notes stand in the order of their items.
-            let count = left.iter().take_while(|(item, _, _)| *item == number).count();
-            let (notes, rest) = left.split_at(count);
-            left = rest;
-            Item { of: self, number, notes }
-        }))
-    }
-}
-
-impl Serialize for Item<'_> {
-    fn serialize<S: Serializer>(&self, serializer: S) -> Result<S::Ok, S::Error> {
-        let Items { document, hang } = self.of;
-        let item = hang.graph.vertices[self.number as usize];
-        let mut map = serializer.serialize_map(None)?;
-        map.serialize_entry("name", &hang.item(self.number))?;
-        map.serialize_entry("kind", &Kind { kinds: &document.item_kinds, label: item.label })?;
-        if item.day != Day::NONE {
-            map.serialize_entry("day", &day(item.day, hang.numbered_days.binary_search(&self.number).is_ok()))?;
-        }
-        if !self.notes.is_empty() {
-            let column = |column: u32| hang.notes.columns[column as usize].as_str();
-            let notes: BTreeMap<&str, &str> =
-                self.notes.iter().map(|(_, c, value)| (column(*c), value.as_str())).collect();
-            map.serialize_entry("notes", &notes)?;
-        }
-        if hang.names.get(self.number).is_none() {
-            map.serialize_entry("unnamed", &true)?;
-        }
-        map.end()
-    }
 }

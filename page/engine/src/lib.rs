@@ -3,10 +3,8 @@
 
 mod call;
 mod hang;
-mod kind;
 mod library;
 mod memory;
-mod pattern;
 mod runs;
 mod take;
 mod text;

@@ -28,7 +28,7 @@ pub fn explain(call: &Call) -> Answer {
         answer.put("probe", &found.probe);
         answer.put("planFrom", &found.origin.word());
         answer.put("instead", &instead(&found));
-        answer.put("plan", &words(document, found.pattern, &found.plan.operators));
+        answer.put("plan", &words(document, &found.pattern, &found.plan.operators));
         answer.put("steps", &steps(document, &found));
         answer.put("tree", &tree(document, &found));
         answer.put("records", &records(document, &found, estimate.as_ref()));
@@ -89,7 +89,7 @@ fn words(document: &Document, pattern: &Pattern, operators: &[Operator]) -> Vec<
 }
 
 fn records(document: &Document, found: &Found, estimate: Option<&Picked>) -> Vec<Value> {
-    let names = words(document, found.pattern, &found.plan.operators);
+    let names = words(document, &found.pattern, &found.plan.operators);
     let record = |(i, (name, record)): (usize, (&String, &rizhavaan_core::engine::Record))| {
         let estimated = estimate.and_then(|e| e.operators.get(i)).map(|o| o.rows);
         json!({ "operator": name, "rows": record.rows, "cost": record.cost, "estimated": estimated })
@@ -104,7 +104,7 @@ fn beside(document: &Document, found: &Found, word: &str, ran: Option<&Picked>, 
     Some(json!({
         "planFrom": word,
         "same": other.plan == found.plan_bytes,
-        "plan": words(document, found.pattern, &plan.operators),
+        "plan": words(document, &found.pattern, &plan.operators),
         "estimated": other.operators.iter().map(|o| o.rows).collect::<Vec<_>>(),
         "time": time,
     }))

@@ -1,9 +1,10 @@
 //! Kinds and days as JSON.
 
-use rizhavaan_core::day::{Day, Days};
-use rizhavaan_core::kinds::Kinds;
 use serde::ser::{Serialize, Serializer};
 use serde_json::{json, Value};
+
+use crate::day::{Day, Days};
+use crate::kinds::Kinds;
 
 /// A kind by its name, or by its number where it has none; 0 is none.
 pub struct Kind<'d> {

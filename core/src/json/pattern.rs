@@ -1,13 +1,15 @@
 //! A pattern that was read, as JSON.
 
-use rizhavaan_core::document::Expect;
-use rizhavaan_core::json::{fault, pair_words};
-use rizhavaan_core::source::Text;
-use rizhavaan_core::{symmetry, write, Document, Pattern};
 use serde::ser::{Serialize, SerializeMap, Serializer};
 use serde_json::{json, Value};
 
-use crate::kind::{days, Kind};
+use crate::document::{Document, Expect, Pattern};
+use crate::json::kind::{days, Kind};
+use crate::json::{fault, pair_words};
+use crate::packed::edge::Edge;
+use crate::packed::query::Vertex;
+use crate::source::Text;
+use crate::{symmetry, write};
 
 pub struct PatternJson<'d> {
     pub document: &'d Document,
@@ -46,7 +48,7 @@ impl Serialize for PatternJson<'_> {
 impl PatternJson<'_> {
     fn vertices(&self) -> Vec<Value> {
         let PatternJson { document, pattern, .. } = *self;
-        let vertex = |(v, vertex): (u32, &rizhavaan_core::packed::query::Vertex)| {
+        let vertex = |(v, vertex): (u32, &Vertex)| {
             json!({
                 "name": pattern.names.get(v),
                 "kind": Kind { kinds: &document.item_kinds, label: vertex.label },
@@ -58,7 +60,7 @@ impl PatternJson<'_> {
 
     fn edges(&self) -> Vec<Value> {
         let kinds = &self.document.connection_kinds;
-        let edge = |e: &rizhavaan_core::packed::edge::Edge| json!({ "from": e.source, "to": e.target, "kind": Kind { kinds, label: e.label } });
+        let edge = |e: &Edge| json!({ "from": e.source, "to": e.target, "kind": Kind { kinds, label: e.label } });
         self.pattern.query.edges.iter().map(edge).collect()
     }
 
