@@ -6,7 +6,6 @@ from __future__ import annotations
 import ctypes
 import json
 import os
-import pathlib
 import warnings
 import weakref
 from array import array
@@ -33,14 +32,14 @@ class _Answer(ctypes.Structure):
 
 
 def _load() -> ctypes.CDLL:
-    path = pathlib.Path(os.environ.get("RIZHAVAAN_PYTHON_LIBRARY") or pathlib.Path(__file__).with_name(_NAME))
-    if not path.is_file():
+    path = os.environ.get("RIZHAVAAN_PYTHON_LIBRARY") or os.path.join(os.path.dirname(__file__), _NAME)
+    if not os.path.isfile(path):
         raise ImportError(
             f"rizhavaan: the shared library {path} is missing. It is inside the wheel that bindings/python/build "
             "makes; `pip install ./bindings/python` from the repository makes and installs it"
         )
     try:
-        library = ctypes.CDLL(str(path))
+        library = ctypes.CDLL(path)
         library.rizhavaan_interface.restype = ctypes.c_uint32
         interface = library.rizhavaan_interface()
     except (OSError, AttributeError) as error:

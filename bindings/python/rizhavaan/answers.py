@@ -2,7 +2,6 @@
 
 from __future__ import annotations
 
-import html
 from typing import Dict, List, NamedTuple, Optional, Tuple
 
 
@@ -66,4 +65,6 @@ class Explanation(NamedTuple):
         return self.text
 
     def _repr_html_(self) -> str:
-        return f"<pre>{html.escape(self.text)}</pre>"
+        from html import escape  # Only a notebook wants it, and it takes its time.
+
+        return f"<pre>{escape(self.text)}</pre>"

@@ -2,7 +2,6 @@
 
 from __future__ import annotations
 
-import html
 import os
 from typing import Any, Dict, Hashable, Iterable, List, Optional, Sequence, Tuple, Union
 
@@ -301,8 +300,10 @@ class Hang:
         return f"<Hang of {self._summary.items} items and {self._summary.connections} connections>"
 
     def _repr_html_(self) -> str:
+        from html import escape  # Only a notebook wants it, and it takes its time.
+
         def kinds(counts: Dict[str, int]) -> str:
-            return html.escape(", ".join(f"{kind} {count}" for kind, count in list(counts.items())[:40]))
+            return escape(", ".join(f"{kind} {count}" for kind, count in list(counts.items())[:40]))
 
         items, connections = self._summary.items, self._summary.connections
         return (

@@ -2,7 +2,6 @@
 
 from __future__ import annotations
 
-import html
 from typing import Any, Optional, Tuple
 
 from ._library import ask, warn
@@ -136,7 +135,9 @@ class Pattern:
         return Pattern.from_text, (self._text,)
 
     def _repr_html_(self) -> str:
-        return f"<pre>{html.escape(self._text)}</pre>"
+        from html import escape  # Only a notebook wants it, and it takes its time.
+
+        return f"<pre>{escape(self._text)}</pre>"
 
 
 def _word(what: str, value: Optional[str]) -> Optional[str]:

@@ -3,7 +3,6 @@
 from __future__ import annotations
 
 import os
-import pathlib
 from typing import Union
 
 
@@ -20,8 +19,9 @@ class Picture:
 
     def save(self, path: Union[str, os.PathLike]) -> None:
         """Writes the picture, or where the name ends in ``.dot`` its description."""
-        path = pathlib.Path(path)
-        path.write_text(self.dot if path.suffix == ".dot" else self.svg, encoding="utf-8")
+        path = os.fsdecode(path)
+        with open(path, "w", encoding="utf-8") as file:
+            file.write(self.dot if path.endswith(".dot") else self.svg)
 
     def _repr_svg_(self) -> str:
         return self.svg

@@ -3,7 +3,6 @@
 from __future__ import annotations
 
 import functools
-import html
 from collections import namedtuple
 from collections.abc import Sequence
 from typing import TYPE_CHECKING, Any, Dict, Iterator, List, Optional, Tuple
@@ -270,14 +269,16 @@ class Places(Sequence):
         return "\n".join([self._title(), *lines])
 
     def _repr_html_(self) -> str:
-        def cells(row: Sequence, cell: str) -> str:
-            return "<tr>" + "".join(f"<{cell}>{html.escape(str(value))}</{cell}>" for value in row) + "</tr>"
+        from html import escape  # Only a notebook wants it, and it takes its time.
 
-        caption = html.escape(self._title())
+        def cells(row: Sequence, cell: str) -> str:
+            return "<tr>" + "".join(f"<{cell}>{escape(str(value))}</{cell}>" for value in row) + "</tr>"
+
+        caption = escape(self._title())
         if self._pattern.sentence:
-            caption += f"<br>{html.escape(self._pattern.sentence)}"
+            caption += f"<br>{escape(self._pattern.sentence)}"
         if not len(self) and self.why:
-            caption += f"<br>{html.escape(self.why)}"
+            caption += f"<br>{escape(self.why)}"
         body = "".join(cells(place, "td") for place in self[: self.SHOWN])
         if len(self) > self.SHOWN:
             body += f'<tr><td colspan="{len(self._pattern)}">and {len(self) - self.SHOWN} more</td></tr>'
