@@ -117,7 +117,7 @@ fn main() {
     let ms = |d: Duration| d.as_secs_f64() * 1_000.0 / ROUNDS as f64;
     let bar = 4.0 * ms(engine) + 60.0;
     let of = |time: Duration, bar: f64| format!("{:.1} | {bar:.1} | {:.2}", ms(time), ms(time) / bar);
-    println!("On the benchmark's rig ({name}), a pattern with {rows} rows; processor time in milliseconds, the mean of {ROUNDS} rounds.\n");
+    println!("On the benchmark's graph ({name}), a pattern with {rows} rows; processor time in milliseconds, the mean of {ROUNDS} rounds.\n");
     println!("| work | ms | bar | of the bar |\n|---|---:|---:|---:|");
     println!("| Load, draw plan and run | {:.1} | | |", ms(engine));
     println!("| `find`, a text: 4 times that plus 60 ms | {} |", of(text, bar));
