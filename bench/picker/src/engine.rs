@@ -30,9 +30,11 @@ pub struct Engine {
     list: Vec<u32>,
     /// Scratch and list are not made longer than this.
     most: usize,
+    /// The longest list of any vertex, or all vertices.
+    longest: usize,
 }
 
-/// A plan that was run once: the words that it needs about, and what it answered.
+/// A plan that was run once: the words in which it finds each row once, and what it answered.
 #[derive(Clone, Debug)]
 pub struct Fitted {
     pub plan: Vec<u8>,
@@ -42,30 +44,47 @@ pub struct Fitted {
     pub records: Vec<Record>,
 }
 
-/// The words of a result, and with it those of the results below it.
-fn pile_words(width: usize, plan: &[Operator], edges: &[u32], records: &[Record]) -> usize {
-    let mut pile: Vec<(u32, usize)> = Vec::new();
+/// The words of scratch in which a run finds each row once: below are the build sides with their tables, then the rows of
+/// the segment that is streamed, and above them as many sets of the longest list as it has stages.
+fn once_words(plan: &[Operator], edges: &[u32], records: &[Record], longest: usize) -> usize {
+    let mut builds: Vec<(u32, usize)> = Vec::new();
     let mut most = 0;
-    for (operator, record) in plan.iter().zip(records) {
-        let before: usize = pile.iter().map(|result| result.1).sum();
-        let (set, table) = match *operator {
-            Operator::Scan(i) => (edges[i], 0),
-            Operator::Extend(v) => (pile.pop().expect("an operand").0 | 1 << v, 0),
-            Operator::Join => {
-                let (probe, build) = (pile.pop().expect("a probe"), pile.pop().expect("a build"));
-                (probe.0 | build.0, 3 * build.1)
-            }
+    let mut from = 0;
+    while from < plan.len() {
+        let stages = plan[from + 1..].iter().take_while(|operator| !matches!(operator, Operator::Scan(_)));
+        let top: usize = builds.iter().map(|build| build.1).sum();
+        let mut set = match plan[from] {
+            Operator::Scan(i) => edges[i],
+            _ => panic!("a segment begins with a scan"),
         };
-        let words = record.rows as usize * set.count_ones() as usize;
-        most = most.max(before + words + table);
-        pile.push((set, words));
+        let left = stages.clone().count();
+        for stage in stages {
+            set |= match *stage {
+                Operator::Extend(v) => 1 << v,
+                _ => builds.pop().expect("a build side").0,
+            };
+        }
+        from += 1 + left;
+        let rows = records[from - 1].rows as usize;
+        let words = rows * set.count_ones() as usize;
+        most = most.max(top + words + left * longest);
+        builds.push((set, words + rows + rows.next_power_of_two()));
     }
-    most + 8 * 65_536 + width
+    most + 64
+}
+
+/// The longest list of any vertex of a store, or all vertices.
+fn longest_list(words: &[u32]) -> usize {
+    let (n, m) = (words[0] as usize, words[1] as usize);
+    let side = |from: usize| words[from..from + n + 1].windows(2).map(|two| (two[1] - two[0]) as usize).max();
+    let forward = 2 + 2 * n;
+    side(forward).max(side(forward + n + 1 + m)).unwrap_or(0).min(n)
 }
 
 impl Engine {
     pub fn new(store: Store, most: usize) -> Engine {
-        Engine { store, scratch: Vec::new(), list: Vec::new(), most }
+        let longest = longest_list(store.words());
+        Engine { store, scratch: Vec::new(), list: Vec::new(), most, longest }
     }
 
     /// Runs a plan until its buffers are long enough, beginning with so many words of scratch and list;
@@ -94,7 +113,11 @@ impl Engine {
             }
         };
         let width = usize::from(query[0] >> 4);
-        let scratch = scratch.min(pile_words(width, plan, edges, &records));
+        let once = once_words(plan, edges, &records, self.longest);
+        if once > self.most {
+            return None;
+        }
+        let scratch = scratch.max(once);
         let list = list.min(answer.rows * width);
         Some(Fitted { plan: bytes, scratch, list, rows: answer.rows, records })
     }

@@ -5,8 +5,13 @@ mod measure;
 mod record;
 mod report;
 
-use picker_bench::graphs::Shape;
+use picker_bench::graphs::{Graph, Shape};
 use picker_bench::random::Random;
+
+/// Whether all of it is to be tried on small graphs: `SMALL` is set.
+fn small() -> bool {
+    std::env::var_os("SMALL").is_some()
+}
 
 /// The graph of a name: a synthetic one, or a packed file.
 fn graph(name: &str) -> Vec<u8> {
@@ -15,9 +20,12 @@ fn graph(name: &str) -> Vec<u8> {
         "slings" => Shape::Slings,
         "power" => Shape::PowerLaw(1.3, 1, 8.0),
         "hubs" => Shape::PowerLaw(1.8, 3, 8.0),
-        path => return std::fs::read(path).unwrap_or_else(|error| panic!("{path}: {error}")),
+        path => {
+            let file = std::fs::read(path).unwrap_or_else(|error| panic!("{path}: {error}"));
+            return if small() { Graph::of_file("", &file).part(6_000).file() } else { file };
+        }
     };
-    shape.graph(60_000).file()
+    shape.graph(if small() { 4_000 } else { 60_000 }).file()
 }
 
 fn main() {

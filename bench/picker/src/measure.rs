@@ -15,6 +15,12 @@ pub struct Measured<'r> {
     pub drawn_time: Option<f64>,
     pub best_time: f64,
     pub best: Vec<Operator>,
+    /// Drawing a plan, which begins with a store check.
+    pub draw_time: f64,
+    /// The run of the least cost, of patterns whose orderings were run, and what all of these take without
+    /// a store check: the way to that plan.
+    pub cheapest_time: Option<f64>,
+    pub all_time: f64,
     /// What is thought of the best.
     pub best_thought: f64,
 }
@@ -40,6 +46,11 @@ pub fn measured<'r>(bench: &mut Bench, recorded: &'r Recorded) -> Option<Measure
         }
     };
     let best = recorded.timed.iter().min_by(|a, b| a.time.total_cmp(&b.time))?;
+    let store = &bench.engine.store;
+    let draw_time = least_of(3, || timed(|| store.draw_plan(file)));
+    let many = recorded.timed.len() > 1;
+    let cheapest = recorded.timed.iter().min_by_key(|timed| timed.cost).filter(|_| many);
+    let all_time = recorded.timed.iter().map(|timed| (timed.time - recorded.check_time).max(0.0)).sum();
     let best_thought = bench.estimate(recorded, &best.plan).time;
     Some(Measured {
         recorded,
@@ -48,6 +59,9 @@ pub fn measured<'r>(bench: &mut Bench, recorded: &'r Recorded) -> Option<Measure
         drawn_time: time_of(&recorded.drawn),
         best_time: best.time.min(picked_time),
         best: best.plan.clone(),
+        draw_time,
+        cheapest_time: cheapest.map(|timed| timed.time),
+        all_time,
         best_thought,
         plan,
         picked,

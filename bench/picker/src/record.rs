@@ -22,10 +22,11 @@ const NOT_SHORT: f64 = 1e7;
 /// slow plan.
 const CHEAP: f64 = 5e6;
 
-/// A plan that was run, and its least time in nanoseconds.
+/// A plan that was run, its least time in nanoseconds, and its cost.
 pub struct Timed {
     pub plan: Vec<Operator>,
     pub time: f64,
+    pub cost: u64,
 }
 
 /// A pattern, and what its orderings took.
@@ -168,7 +169,9 @@ impl Bench {
                 run.1 = run.1.min(self.engine.time(&recorded.file, &run.0));
             }
         }
-        recorded.timed = fitted.into_iter().map(|(_, time, plan)| Timed { plan, time }).collect();
+        let cost = |run: &Fitted| run.records.iter().map(|record| record.cost).sum();
+        recorded.timed =
+            fitted.into_iter().map(|(run, time, plan)| Timed { plan, time, cost: cost(&run) }).collect();
         Some(recorded)
     }
 }
@@ -179,7 +182,7 @@ pub fn to_text(bench: &Bench, all: &[Recorded]) -> String {
     let mut out = format!("{} {}\n", bench.check_time, bench.statistics_time);
     for one in all {
         let plans: Vec<String> =
-            one.timed.iter().map(|t| format!("{}:{}", hex(&pack(&t.plan)), t.time)).collect();
+            one.timed.iter().map(|t| format!("{}:{}:{}", hex(&pack(&t.plan)), t.time, t.cost)).collect();
         let (file, drawn) = (hex(&one.file), hex(&pack(&one.drawn)));
         out +=
             &format!("{file} {drawn} {} {} {} {}\n", one.skipped, one.rows, one.check_time, plans.join(" "));
@@ -203,8 +206,13 @@ pub fn from_text(bench: &mut Bench, text: &str) -> Vec<Recorded> {
         let fields: Vec<&str> = line.split(' ').collect();
         let file = bytes(fields[0]);
         let timed = fields[5..].iter().map(|field| {
-            let (hex, time) = field.split_once(':').expect("a plan and its time");
-            Timed { plan: plan(hex), time: time.parse().expect("a number") }
+            let parts: Vec<&str> = field.split(':').collect();
+            let [hex, time, cost] = parts[..] else { panic!("{field}: a plan, its time and its cost") };
+            Timed {
+                plan: plan(hex),
+                time: time.parse().expect("a number"),
+                cost: cost.parse().expect("a number"),
+            }
         });
         Recorded {
             query: Query::read(&file).expect("a query"),

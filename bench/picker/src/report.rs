@@ -73,9 +73,22 @@ fn spread(mut numbers: Vec<f64>) -> String {
     format!("| {} | {}", cells.join(" | "), numbers.len())
 }
 
+/// What a graph is called.
+fn title(name: &str) -> &str {
+    match name {
+        "rig" => "The rig",
+        "power" => "A power law of 1.3, one label",
+        "hubs" => "A power law of 1.8, three labels",
+        "slings" => "Slings",
+        _ => "Debian's packages",
+    }
+}
+
 pub fn percentiles(name: &str, bench: &Bench, found: &[Measured]) -> String {
+    let sizes = || found.iter().map(|m| m.query().vertices());
+    let (least, most, name) = (sizes().min().unwrap_or(0), sizes().max().unwrap_or(0), title(name));
     let mut out = format!(
-        "\n### {name}\n\n| | 50 % | 90 % | 95 % | 99 % | most | patterns |\n|---|--:|--:|--:|--:|--:|--:|\n"
+        "\n### {name}, patterns of {least} to {most} vertices\n\n| | 50 % | 90 % | 95 % | 99 % | most | patterns |\n|---|--:|--:|--:|--:|--:|--:|\n"
     );
     let mut row = |title: &str, numbers: Vec<f64>| {
         let _ = writeln!(out, "| {title} {} |", spread(numbers));
@@ -84,6 +97,8 @@ pub fn percentiles(name: &str, bench: &Bench, found: &[Measured]) -> String {
     let long: Vec<&Measured> = found.iter().filter(|m| bare(m, m.best_time) >= SHORT).collect();
     row("picked / best", found.iter().map(|m| m.picked_time / m.best_time).collect());
     row("drawn / best", found.iter().map(|m| drawn(m) / m.best_time).collect());
+    let cheapest = |m: &Measured| Some(m.cheapest_time? / m.best_time);
+    row("cheapest / best", found.iter().filter_map(cheapest).collect());
     row("picked / drawn", found.iter().map(|m| m.picked_time / drawn(m)).collect());
     row(
         "picked / best, without store check",
@@ -97,6 +112,16 @@ pub fn percentiles(name: &str, bench: &Bench, found: &[Measured]) -> String {
         "picked / drawn, without store check",
         long.iter().map(|m| bare(m, m.picked_time) / bare(m, drawn(m))).collect(),
     );
+    row(
+        "choosing and running: picked / best run",
+        found.iter().map(|m| (m.pick_time + m.picked_time) / m.best_time).collect(),
+    );
+    row(
+        "choosing and running: drawn / best run",
+        found.iter().map(|m| (m.draw_time + drawn(m)) / m.best_time).collect(),
+    );
+    let cheapest = |m: &Measured| Some((m.recorded.check_time + m.all_time + m.cheapest_time?) / m.best_time);
+    row("choosing and running: cheapest / best run", found.iter().filter_map(cheapest).collect());
     row("picking, µs", found.iter().map(|m| m.pick_time / 1e3).collect());
     row("picking / bar", found.iter().map(|m| m.pick_time / (0.02 * m.picked_time).max(2e6)).collect());
     row("estimated / true time", long.iter().map(|m| m.picked.time / bare(m, m.picked_time)).collect());
@@ -121,6 +146,23 @@ pub fn percentiles(name: &str, bench: &Bench, found: &[Measured]) -> String {
         mine / least,
         its / least
     );
+    let mut worst: Vec<&Measured> = found.iter().collect();
+    worst.sort_by(|a, b| (b.picked_time / b.best_time).total_cmp(&(a.picked_time / a.best_time)));
+    let _ = writeln!(out, "The three picks furthest from the best:\n");
+    for m in worst.iter().take(3) {
+        let _ = writeln!(
+            out,
+            "- {:.2}: {:.2} ms by `{}`, {:.2} ms by `{}`, {} rows: `{}`",
+            m.picked_time / m.best_time,
+            m.picked_time / 1e6,
+            plan_text(&m.plan),
+            m.best_time / 1e6,
+            plan_text(&m.best),
+            m.recorded.rows,
+            query_text(m.query()).trim_end(),
+        );
+    }
+    out.push('\n');
     let enough = found.iter().filter(|m| m.picked.list as usize >= m.recorded.rows * m.query().vertices()).count();
     let _ = writeln!(out, "The first list was long enough for {enough} of {} patterns.", found.len());
     let (statistics, check) = (bench.statistics_time / 1e6, bench.check_time / 1e6);

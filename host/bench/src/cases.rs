@@ -1,4 +1,5 @@
 //! Queries with plans, as packed files and as SQL.
+use crate::files::{self, Operator};
 use crate::graphs::{rig_label, Bits, DAYS};
 
 /// A query edge: from, to, label, 0 for any.
@@ -41,6 +42,13 @@ impl Case {
         case
     }
 
+    /// A pattern without a plan: of each vertex the label, 0 for any.
+    pub fn pattern(name: &str, labels: &[u16], mut edges: Vec<QueryEdge>, pairs: &[(u8, u8)]) -> Case {
+        edges.sort();
+        let vertices = labels.iter().map(|&label| Vertex(label, 0, 65_535)).collect();
+        Case { name: name.into(), vertices, edges, pairs: pairs.to_vec(), steps: Vec::new(), counted: true }
+    }
+
     fn scan(&self, (from, to): (u8, u8)) -> Step {
         Step::Scan(self.edges.iter().position(|e| (e.0, e.1) == (from, to)).expect("a query edge"))
     }
@@ -63,7 +71,7 @@ impl Case {
     }
 
     /// Each vertex, or the last alone, with a range of days that a tenth of the items have.
-    fn in_days(mut self, last_only: bool) -> Case {
+    pub fn in_days(mut self, last_only: bool) -> Case {
         let skipped = if last_only { self.vertices.len() - 1 } else { 0 };
         let end = DAYS as u16 / 2;
         for vertex in &mut self.vertices[skipped..] {
@@ -119,6 +127,20 @@ impl Case {
             }
         }
         file.bytes()
+    }
+
+    /// The same query by the plan of a file.
+    pub fn with_plan(&self, plan: &[u8]) -> Case {
+        let step = |operator: &Operator| match *operator {
+            Operator::Scan(edge) => Step::Scan(edge),
+            Operator::Extend(vertex) => Extend(vertex as u8),
+            Operator::Join => Join,
+        };
+        Case { steps: files::plan(plan).iter().map(step).collect(), ..self.clone() }
+    }
+
+    pub fn joins(&self) -> bool {
+        self.steps.contains(&Join)
     }
 
     /// The plan in words: the scanned edge's ends, then the vertices of the extends.

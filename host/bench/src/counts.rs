@@ -5,21 +5,22 @@ use std::collections::HashMap;
 use std::path::Path;
 use std::process::{Child, Command, Stdio};
 
-/// By shape and work: the instructions of the two plain versions and the engine.
-pub type Counts = HashMap<(String, String), [u64; 3]>;
+/// By shape and work: the instructions of each version, the engine's last.
+pub type Counts = HashMap<(String, String), Vec<u64>>;
 
 pub fn version() -> Option<String> {
     let out = Command::new("valgrind").arg("--version").output().ok()?;
     Some(String::from_utf8_lossy(&out.stdout).trim().to_owned())
 }
 
-fn start(folder: &Path, part: usize, parts: usize) -> std::io::Result<Child> {
+fn start(folder: &Path, part: usize, parts: usize, quick: bool) -> std::io::Result<Child> {
     Command::new("valgrind")
         .args(["--tool=callgrind", "--toggle-collect=bench::measure::counted", "--dump-after=bench::measure::counted"])
         .arg(format!("--callgrind-out-file={}/part{part}.out", folder.display()))
         .arg(format!("--log-file={}/part{part}.log", folder.display()))
         .arg(std::env::current_exe()?)
         .args(["--count", &format!("{part}/{parts}")])
+        .args(quick.then_some("--quick"))
         .stdout(Stdio::piped())
         .stderr(Stdio::null())
         .spawn()
@@ -33,7 +34,7 @@ fn total(file: &Path) -> std::io::Result<u64> {
 }
 
 /// Counts every row, in as many processes at once as there are parts; nothing where there is no valgrind.
-pub fn counts(parts: usize) -> std::io::Result<Counts> {
+pub fn counts(parts: usize, quick: bool) -> std::io::Result<Counts> {
     let mut counts = Counts::new();
     if version().is_none() {
         return Ok(counts);
@@ -41,17 +42,16 @@ pub fn counts(parts: usize) -> std::io::Result<Counts> {
     eprintln!("instructions");
     let folder = std::env::temp_dir().join(format!("rizhavaan-bench-{}", std::process::id()));
     std::fs::create_dir_all(&folder)?;
-    let children = (0..parts).map(|part| start(&folder, part, parts)).collect::<std::io::Result<Vec<_>>>()?;
+    let children = (0..parts).map(|part| start(&folder, part, parts, quick)).collect::<std::io::Result<Vec<_>>>()?;
     for (part, child) in children.into_iter().enumerate() {
         let out = child.wait_with_output()?;
         assert!(out.status.success(), "the rows are counted");
-        for (i, line) in String::from_utf8_lossy(&out.stdout).lines().enumerate() {
-            let (shape, work) = line.split_once('\t').expect("a shape and a work");
-            let mut three = [0; 3];
-            for (k, number) in three.iter_mut().enumerate() {
-                *number = total(&folder.join(format!("part{part}.out.{}", 3 * i + k + 1)))?;
-            }
-            counts.insert((shape.into(), work.into()), three);
+        let mut files = 1..;
+        for line in String::from_utf8_lossy(&out.stdout).lines() {
+            let [versions, shape, work] = line.splitn(3, '\t').collect::<Vec<_>>()[..] else { panic!("{line}") };
+            let files = files.by_ref().take(versions.parse().expect("a number"));
+            let numbers = files.map(|file| total(&folder.join(format!("part{part}.out.{file}"))));
+            counts.insert((shape.into(), work.into()), numbers.collect::<std::io::Result<_>>()?);
         }
     }
     std::fs::remove_dir_all(&folder)?;

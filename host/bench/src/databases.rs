@@ -89,13 +89,13 @@ impl Database {
         Ok(Database { program, limit: Duration::from_secs_f64(limit) })
     }
 
-    /// Runs a counting query, within the limit, in one thread.
-    pub fn count(&self, sql: &str) -> std::io::Result<Counted> {
+    /// Runs a counting query, within the limit. PostgreSQL may have so many workers of its own beside its process.
+    pub fn count(&self, sql: &str, workers: usize) -> std::io::Result<Counted> {
         let mut child = self.program.start()?;
         let script = match self.program {
             Program::Sqlite => format!("PRAGMA cache_size = -400000;\n.timer on\n{sql}\n"),
             Program::Postgres => format!(
-                "SET max_parallel_workers_per_gather = 0;\nSET work_mem = '400MB';\nSET statement_timeout = {};\n\\timing on\n{sql}\n",
+                "SET max_parallel_workers_per_gather = {workers};\nSET work_mem = '400MB';\nSET statement_timeout = {};\n\\timing on\n{sql}\n",
                 self.limit.as_millis()
             ),
         };

@@ -32,7 +32,7 @@ pub fn row(rounds: Rounds, bench: &Bench, case: &Case) -> Drawn {
     let mut tried = Vec::new();
     for case in &cases {
         let plan = case.plan();
-        let words = crate::rows::lent(store, &query, &plan, true);
+        let words = crate::rows::checked_needs(store, &query, &plan, true).roomy;
         run(&plan, words);
         let mut answer = None;
         let time = seconds(|| answer = Some(run(&plan, words)));

@@ -65,7 +65,38 @@ pub struct Graph {
     pub edges: Vec<Edge>,
 }
 
+/// The field of so many bits, at most 24, at a bit of a file.
+fn field(file: &[u8], at: usize, width: usize) -> u32 {
+    let bytes = (at / 8..at / 8 + 4).fold(0, |word, i| word << 8 | u32::from(file.get(i).copied().unwrap_or(0)));
+    bytes << (at % 8) >> (32 - width)
+}
+
 impl Graph {
+    /// The graph of a packed file that is accepted.
+    pub fn of_file(name: &str, file: &[u8]) -> Graph {
+        let (n, m) = (field(file, 0, 16) as usize, field(file, 16, 20) as usize);
+        let edge = |i: usize| {
+            let at = 36 + 32 * n + 40 * i;
+            (field(file, at, 16) as u16, field(file, at + 16, 8) as u8, field(file, at + 24, 16) as u16)
+        };
+        Graph {
+            name: format!("{name}: {n} vertices, {m} edges"),
+            labels: (0..n).map(|v| field(file, 36 + 32 * v, 16) as u16).collect(),
+            days: (0..n).map(|v| field(file, 52 + 32 * v, 16) as u16).collect(),
+            edges: (0..m).map(edge).collect(),
+        }
+    }
+
+    /// Its first vertices, with the edges between them.
+    pub fn part(mut self, n: usize) -> Graph {
+        self.labels.truncate(n);
+        self.days.truncate(n);
+        self.edges.retain(|&(source, _, target)| usize::from(source) < n && usize::from(target) < n);
+        let name = self.name.split(':').next().unwrap_or_default();
+        self.name = format!("{name}: {} vertices, {} edges", self.labels.len(), self.edges.len());
+        self
+    }
+
     /// The packed file: N (16 bits), M (20), labels (16) with a day (16) after each, edges of source (16), label (8), target (16).
     pub fn file(&self) -> Vec<u8> {
         let mut file = Bits::default();
@@ -240,17 +271,8 @@ fn rig(vertices: usize) -> (Vec<u16>, Vec<Edge>) {
 
 /// The kinds of dependency of a package, by label: how many packages in a thousand have some, and how many of them on average. The
 /// third is the common one; those of the others are few, and often of the same packages.
-const KINDS: [(usize, f64); 9] = [
-    (90, 2.0),
-    (50, 1.6),
-    (930, 4.4),
-    (20, 1.3),
-    (30, 1.2),
-    (100, 2.0),
-    (160, 2.4),
-    (90, 2.0),
-    (170, 2.1),
-];
+const KINDS: [(usize, f64); 9] =
+    [(90, 2.0), (50, 1.6), (930, 4.4), (20, 1.3), (30, 1.2), (100, 2.0), (160, 2.4), (90, 2.0), (170, 2.1)];
 
 /// Every package depends on a few others, most often on one of a few hubs.
 fn packages(n: usize) -> Vec<Edge> {

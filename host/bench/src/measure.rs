@@ -36,7 +36,7 @@ pub struct Spread {
 }
 
 impl Spread {
-    fn of(mut numbers: Vec<f64>) -> Spread {
+    pub fn of(mut numbers: Vec<f64>) -> Spread {
         numbers.sort_by(f64::total_cmp);
         let last = numbers.len() - 1;
         Spread { low: numbers[last / 4], median: numbers[last / 2], high: numbers[last - last / 4] }
@@ -61,18 +61,25 @@ pub struct Rounds {
     pub most: usize,
 }
 
-/// The times of versions of one work. They run once unmeasured, and then in turn, each round beginning with another: a minute in which
-/// the machine is slow is slow for all.
-pub fn race<const N: usize>(rounds: Rounds, mut versions: [&mut dyn FnMut(); N]) -> Times<N> {
+/// The times of versions of one work, round by round. They run once unmeasured, and then in turn, each round beginning with another: a minute in
+/// which the machine is slow is slow for all.
+pub fn turns(rounds: Rounds, versions: &mut [&mut dyn FnMut()]) -> Vec<Vec<f64>> {
+    let n = versions.len();
     let once: f64 = versions.iter_mut().map(seconds).sum();
     let count = rounds.least.max(((rounds.seconds / once.max(1e-6)) as usize).min(rounds.most));
-    let mut times = vec![[0.0; N]; count];
+    let mut times = vec![vec![0.0; n]; count];
     for (round, times) in times.iter_mut().enumerate() {
-        for k in 0..N {
-            let i = (round + k) % N;
+        for k in 0..n {
+            let i = (round + k) % n;
             times[i] = seconds(&mut versions[i]);
         }
     }
+    times
+}
+
+/// The times of N versions.
+pub fn race<const N: usize>(rounds: Rounds, mut versions: [&mut dyn FnMut(); N]) -> Times<N> {
+    let times = turns(rounds, &mut versions);
     Times {
         seconds: std::array::from_fn(|i| Spread::of(times.iter().map(|t| t[i]).collect()).median),
         ratios: std::array::from_fn(|i| Spread::of(times.iter().map(|t| t[N - 1] / t[i]).collect())),

@@ -3,12 +3,14 @@ use crate::counts::Counts;
 use crate::databases::{Counted, PROGRAMS};
 use crate::drawn::Drawn;
 use crate::measure::Spread;
+use crate::operations::Operation;
 use crate::rows::Row;
 use std::fmt::Write;
 use std::process::Command;
 
-/// The bars: at most 1.0 times the first plain version, and 1.1 times the second.
+/// The bars of time: at most 1.0 times the first plain version, and 1.1 times the second. And of instructions.
 const BARS: [f64; 2] = [1.0, 1.1];
+const LONG: [f64; 2] = [1.0, 1.0];
 
 const NAMES: [&str; 2] = ["merge", "same"];
 
@@ -17,6 +19,7 @@ pub struct Table {
     pub graph: String,
     pub rows: Vec<Row>,
     pub drawn: Vec<Drawn>,
+    pub operations: Vec<Operation>,
 }
 
 /// Whether a ratio, as it is printed, is above a bar.
@@ -36,11 +39,11 @@ struct Verdict {
 }
 
 impl Verdict {
-    fn of(row: &Row, counts: Option<&[u64; 3]>, i: usize) -> Verdict {
+    fn of(row: &Row, counts: Option<&Vec<u64>>, i: usize) -> Verdict {
         let time = row.times.expect("a timed row").ratios[i];
         let instructions = counts.map(|counts| counts[2] as f64 / counts[i] as f64);
         let slow = above(time.median, BARS[i]);
-        Verdict { time, instructions, slow, long: instructions.map_or(slow, |ratio| above(ratio, BARS[i])) }
+        Verdict { time, instructions, slow, long: instructions.map_or(slow, |ratio| above(ratio, LONG[i])) }
     }
 
     fn misses(&self) -> bool {
@@ -65,7 +68,7 @@ fn marked(text: &str, misses: bool) -> String {
     }
 }
 
-fn milliseconds(seconds: f64) -> String {
+pub fn milliseconds(seconds: f64) -> String {
     match seconds * 1e3 {
         ms if ms < 9.995 => format!("{ms:.2}"),
         ms if ms < 99.95 => format!("{ms:.1}"),
@@ -73,7 +76,7 @@ fn milliseconds(seconds: f64) -> String {
     }
 }
 
-fn thousands(number: u64) -> String {
+pub fn thousands(number: u64) -> String {
     let digits = number.to_string();
     let mut text = String::new();
     for (i, digit) in digits.chars().enumerate() {
@@ -90,7 +93,7 @@ fn count(rows: Option<usize>) -> String {
 }
 
 /// A database's time, and how many times as long as the engine it took.
-fn database(counted: &Option<Counted>, engine: f64) -> String {
+pub fn database(counted: &Option<Counted>, engine: f64) -> String {
     match counted {
         None => String::new(),
         Some(Counted::In(_, seconds)) => format!("{} ({:.1}×)", milliseconds(*seconds), seconds / engine),
@@ -148,8 +151,29 @@ pub fn misses(tables: &[Table], counts: &Counts) -> String {
             }
         }
     }
+    let mut medians = String::new();
+    for (i, (name, bar)) in NAMES.iter().zip(["0.8", "1.1"]).enumerate() {
+        let ratios = |ratio: &dyn Fn(Verdict) -> Option<f64>| -> Vec<f64> {
+            let verdicts = tables.iter().flat_map(|table| table.rows.iter().map(|row| table.verdicts(row, counts)));
+            verdicts.filter_map(|two| ratio(two.into_iter().nth(i)?)).collect()
+        };
+        let (times, lengths) = (ratios(&|v| Some(v.time.median)), ratios(&|v| v.instructions));
+        if times.is_empty() {
+            continue;
+        }
+        let lengths = match lengths.is_empty() {
+            true => String::new(),
+            false => format!(", {:.2} of its instructions", Spread::of(lengths).median),
+        };
+        let time = Spread::of(times).median;
+        writeln!(
+            medians,
+            "At the median of all rows the engine takes {time:.2} of the time of {name} (the bar: {bar}){lengths}.\n"
+        )
+        .unwrap();
+    }
     let [both, slow, long] = lists.map(|list| if list.is_empty() { "None.\n".into() } else { list });
-    format!("{both}\nAbove it by time alone:\n\n{slow}\nAbove it by instructions alone:\n\n{long}")
+    format!("{medians}{both}\nAbove it by time alone:\n\n{slow}\nAbove it by instructions alone:\n\n{long}")
 }
 
 /// How the engine's time grows: a line for each work, a column for each size.
@@ -202,6 +226,39 @@ pub fn drawn(tables: &[Table]) -> String {
         }
     }
     text
+}
+
+/// The other operations, each beside what one would do without it.
+pub fn operations(tables: &[Table], counts: &Counts) -> String {
+    let mut text = String::from("| graph | operation | ms | beside | its ms | ratio | of instructions |\n");
+    text += "|---|---|---:|---|---:|---:|---:|\n";
+    for table in tables {
+        for operation in &table.operations {
+            let Some(times) = operation.times else { continue };
+            let Spread { low, median, high } = times.ratios[0];
+            let counts = counts.get(&(table.shape.clone(), operation.work.clone()));
+            let ratio = counts.map_or(String::new(), |counts| format!("{:.2}", counts[1] as f64 / counts[0] as f64));
+            writeln!(
+                text,
+                "| {} | {} | {} | {} | {} | {median:.2} ({low:.2}–{high:.2}) | {ratio} |",
+                table.shape,
+                operation.work,
+                short(times.seconds[1]),
+                operation.beside,
+                short(times.seconds[0]),
+            )
+            .unwrap();
+        }
+    }
+    text
+}
+
+/// Milliseconds, of which there may be few.
+fn short(seconds: f64) -> String {
+    match seconds * 1e3 {
+        ms if ms < 0.1 => format!("{ms:.4}"),
+        _ => milliseconds(seconds),
+    }
 }
 
 fn first_line(program: &str, arguments: &[&str]) -> Option<String> {

@@ -4,13 +4,14 @@ use crate::databases::{Counted, Database};
 use crate::files::{self, Answer};
 use crate::graphs::Graph;
 use crate::measure::{counted, race, Rounds, Times};
-use crate::{merge, same};
+use crate::merge;
+use crate::same::{self, Needs};
 use rizhavaan::{Cache, Record};
 
 /// The words of the largest scratch that a case may need: it is reserved, and used as far as needed.
 pub const MOST: usize = 700_000_000;
 
-/// How the versions of a work are measured: the two plain ones and the engine.
+/// How the versions of a work are measured, of which the engine is the last.
 #[derive(Clone, Copy)]
 pub enum Meter {
     Timed(Rounds),
@@ -19,11 +20,26 @@ pub enum Meter {
 }
 
 impl Meter {
-    fn measure(self, shape: &str, work: &str, mut versions: [&mut dyn FnMut(); 3]) -> Option<Times<3>> {
+    /// With fewer rounds.
+    pub fn shorter(self) -> Meter {
+        match self {
+            Meter::Timed(rounds) => {
+                Meter::Timed(Rounds { seconds: rounds.seconds / 3.0, least: rounds.least.min(3), ..rounds })
+            }
+            Meter::Counted => self,
+        }
+    }
+
+    pub fn measure<const N: usize>(
+        self,
+        shape: &str,
+        work: &str,
+        mut versions: [&mut dyn FnMut(); N],
+    ) -> Option<Times<N>> {
         match self {
             Meter::Timed(rounds) => Some(race(rounds, versions)),
             Meter::Counted => {
-                println!("{shape}\t{work}");
+                println!("{N}\t{shape}\t{work}");
                 versions.iter_mut().for_each(|version| counted(version));
                 None
             }
@@ -38,6 +54,15 @@ pub struct Row {
     pub times: Option<Times<3>>,
     /// What the databases counted, as in `databases::PROGRAMS`.
     pub counted: [Option<Counted>; 2],
+    /// Of a run with the cache on.
+    pub memory: Option<Memory>,
+}
+
+/// The words that a run takes, and its time in a scratch of just its need beside that in which each row is found once.
+pub struct Memory {
+    pub needs: Needs,
+    pub list: usize,
+    pub times: Option<Times<2>>,
 }
 
 /// A graph's rows in the making.
@@ -68,23 +93,27 @@ pub fn engine(
     }
 }
 
-/// The words of scratch that a run of every version is lent: those that the plain version of the engine's algorithm as it was before rows
-/// were streamed needs, or twice as many, and so on, where the engine needs more.
-pub fn lent(store: &[u32], query: &[u8], plan: &[u8], cache: bool) -> usize {
-    let mut reserved = vec![0; MOST];
+/// What a run needs. The plain version of the engine's algorithm says it, in as much as may be needed.
+fn needs(store: &[u32], query: &[u8], plan: &[u8], cache: bool) -> Needs {
+    let (mut reserved, mut list) = (vec![0; MOST], vec![0; MOST]);
     let mut records = [Record::default(); rizhavaan::MAX_OPERATORS];
     let (q, p) = (files::query(query), files::plan(plan));
-    let mut words = same::execute(store, &q, &p, cache, &mut reserved, &mut records).expect("the case fits").need;
-    while engine(store, query, plan, cache, &mut reserved[..words], &mut [], &mut records).refusal == 20 {
-        words = (2 * words).max(64);
-    }
-    words
+    same::execute(store, &q, &p, cache, &mut reserved, &mut list, &mut records).expect("the case fits").1
+}
+
+/// The same, held against the engine's own word on its need.
+pub fn checked_needs(store: &[u32], query: &[u8], plan: &[u8], cache: bool) -> Needs {
+    let needs = needs(store, query, plan, cache);
+    let setting = if cache { Cache::On } else { Cache::Off };
+    let count = rizhavaan::count(store, query, plan, setting, &mut vec![0; needs.roomy]).expect("the case fits");
+    assert_eq!(count.need, needs.now, "the need is what Count answers");
+    needs
 }
 
 impl Bench<'_> {
-    fn row(&self, work: &str, rows: Option<usize>, versions: [&mut dyn FnMut(); 3]) -> Row {
+    pub fn row(&self, work: &str, rows: Option<usize>, versions: [&mut dyn FnMut(); 3]) -> Row {
         let times = self.meter.measure(&self.shape, work, versions);
-        Row { work: work.into(), rows, times, counted: [None, None] }
+        Row { work: work.into(), rows, times, counted: [None, None], memory: None }
     }
 
     /// Load, into the store of the rows that follow.
@@ -168,10 +197,17 @@ impl Bench<'_> {
         row
     }
 
-    /// A run in a scratch of the words that are lent and a list of just the words of its rows, which were in use before.
+    /// A run in a scratch of so many words beside one in which each row is found once.
+    fn tight(&self, work: &str, words: usize, run: &dyn Fn(Option<usize>)) -> Option<Times<2>> {
+        let work = format!("{work}, in just its need");
+        self.meter.shorter().measure(&self.shape, &work, [&mut || run(None), &mut || run(Some(words))])
+    }
+
+    /// A run in a scratch in which each row is found once and a list of just the words of its rows, which were in use before.
     pub fn run(&self, case: &Case, cache: bool, databases: [Option<&Database>; 2]) -> Row {
         let (store, query, plan) = (&self.store[..], case.query(), case.plan());
-        let mut scratch = vec![1; lent(store, &query, &plan, cache)];
+        let needs = checked_needs(store, &query, &plan, cache);
+        let mut scratch = vec![1; needs.roomy];
         let mut list = vec![0; MOST];
         let mut recorded = [Record::default(); rizhavaan::MAX_OPERATORS];
         let expected = engine(store, &query, &plan, cache, &mut scratch, &mut list, &mut recorded);
@@ -200,8 +236,18 @@ impl Bench<'_> {
             Some(expected.rows),
             [&mut || timed(merge::run), &mut || timed(same::run), &mut || timed(engine)],
         );
+        row.memory = cache.then(|| Memory {
+            times: self.tight(&work, needs.now, &|scratch: Option<usize>| {
+                let (room, list) = &mut *buffers.borrow_mut();
+                let room = &mut room[..scratch.unwrap_or(needs.roomy)];
+                let mut records = [Record::default(); rizhavaan::MAX_OPERATORS];
+                assert_eq!(engine(store, &query, &plan, cache, room, list, &mut records), expected);
+            }),
+            list: expected.rows * case.width(),
+            needs: needs.clone(),
+        });
         row.counted = databases.map(|database| {
-            let counted = database?.count(&case.sql()).expect("the database runs");
+            let counted = database?.count(&case.sql(), 0).expect("the database runs");
             if let Counted::In(count, _) = counted {
                 assert_eq!(count, expected.rows as u64, "the database counts the same: {}", case.name);
             }

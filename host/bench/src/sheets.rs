@@ -88,6 +88,12 @@ impl Sheet {
         self.drawn.retain(|case| case.name.contains(word));
     }
 
+    /// On graphs of a tenth of the edges and fewer, by which it is seen whether all of it works.
+    pub fn shrink(&mut self) {
+        self.edges = self.edges.min(40_000) / 10;
+        self.small = self.small.map(|small| small / 10);
+    }
+
     /// Measures the sheet's work on its graph of so many edges; databases have so many seconds a query.
     pub fn table(&self, meter: Meter, edges: usize, database_seconds: Option<f64>) -> Table {
         let graph = self.shape.graph(edges);
@@ -115,6 +121,10 @@ impl Sheet {
             Meter::Timed(rounds) => self.drawn.iter().map(|case| crate::drawn::row(rounds, &bench, case)).collect(),
             Meter::Counted => Vec::new(),
         };
-        Table { shape: bench.shape.clone(), graph: graph.name.clone(), rows, drawn }
+        let operations = match (self.cases.first(), self.drawn.first()) {
+            (Some(case), Some(pattern)) => bench.operations(case, pattern),
+            _ => Vec::new(),
+        };
+        Table { shape: bench.shape.clone(), graph: graph.name.clone(), rows, drawn, operations }
     }
 }
