@@ -1,4 +1,4 @@
-//! Measures the program beside the engine alone, on the benchmark's rig: `host/bar` runs it.
+//! Measures the program beside the engine alone, on the benchmark's rig: `bench/program` runs it.
 //!
 //! The bar for a text is 4 times the time of Load and run together plus 60 ms, and for tables twice that. Processor time counts,
 //! so that what else the machine does matters little; it is the mean of many rounds, each of which measures all in turn.
@@ -6,7 +6,7 @@
 #[path = "../src/engine.rs"]
 mod engine;
 #[allow(dead_code)]
-#[path = "../../host/bench/src/graphs.rs"]
+#[path = "../../bench/engine/src/graphs.rs"]
 mod graphs;
 
 use std::fmt::Write;

@@ -93,7 +93,7 @@ struct Server {
 impl Server {
     /// None where its programs are not there, or it does not start, which is said.
     fn start() -> Option<Server> {
-        let script = "set -eu; . host/bench/postgres; echo \"${PGHOST:-}\"; read -r _ || true";
+        let script = "set -eu; . bench/engine/postgres; echo \"${PGHOST:-}\"; read -r _ || true";
         let mut shell = Command::new("bash")
             .current_dir(Path::new(env!("CARGO_MANIFEST_DIR")).join(".."))
             .args(["-c", script])

@@ -1,6 +1,6 @@
 //! The proved engine as this library sees it: the operations over lent buffers, and buffers that grow.
 //!
-//! A shell lends the engine in: the program over the wrapper in `host/`, the page over the same functions as WebAssembly.
+//! A shell lends the engine in: the program over the wrapper in `bindings/rust/`, the page over the same functions as WebAssembly.
 
 /// The number of a refusal.
 #[derive(Clone, Copy, Debug, PartialEq, Eq)]

@@ -1,5 +1,5 @@
 //! The plan picker of the core, included by its path, and what its tests and its benchmark share.
-#[path = "../../../host/bench/src/graphs.rs"]
+#[path = "../../engine/src/graphs.rs"]
 pub mod graphs;
 #[path = "../../../core/src/picker/mod.rs"]
 pub mod picker;

@@ -1,7 +1,7 @@
 //! The picker compiled for WebAssembly by itself, for holding its picks to those of the native one.
 #[path = "../src/digest.rs"]
 mod digest;
-#[path = "../../../host/bench/src/graphs.rs"]
+#[path = "../../engine/src/graphs.rs"]
 pub mod graphs;
 #[path = "../src/patterns.rs"]
 pub mod patterns;

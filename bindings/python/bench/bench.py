@@ -169,7 +169,7 @@ def beside_others():
 
 def main():
     if not PROGRAM.is_file():
-        sys.exit(f"bench: {PROGRAM} is missing: host/build makes it")
+        sys.exit(f"bench: {PROGRAM} is missing: cli/build makes it")
     lines, kept = on_the_rig()
     print("| on the rig | processor time | bound |\n|---|---|---|")
     print("\n".join(lines))

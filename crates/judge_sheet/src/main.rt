@@ -1,7 +1,7 @@
 // A program of the tests: worked pages (document 02, request 13), those of lists that end before, at and
 // after the end of a page, written over one another into the same bytes, and the refusals. Before each
 // page stand its refusal and its page count, and after it the bytes past it, which stay. What must come
-// out, `stdout`, is by a writer that shares no code with the sheet: the host's tests compare it with
+// out, `stdout`, is by a writer that shares no code with the sheet: the tests in `tests/` compare it with
 // theirs. Matches are judged by `judge`.
 use libc::STDOUT_FILENO;
 ghost use Prim.Native.Nat.{_≤_, _<_};
