@@ -41,6 +41,7 @@ class Look:
         for part in PARTS:
             self.page.tab(part)
             if part == "pattern":
+                self.page.until_still("[data-vertex='0'] .shape")
                 self.page.tap("[data-vertex='0'] .shape")
                 self.page.until(lambda: self.page.is_seen("#pattern-form [data-key=remove]"), "the form")
             if part == "work":

@@ -102,6 +102,16 @@ class Page(Browser):
         """By the pointer, or by a finger on a phone."""
         self.drag([self.middle(css, dx, dy)])
 
+    def until_still(self, css):
+        """A drawing glides to its place: until it stands there."""
+        seen = []
+
+        def stands():
+            seen.append(self.middle(css))
+            return len(seen) > 3 and len(set(seen[-4:])) == 1
+
+        self.until(stands, f"{css} stands still")
+
     def drag(self, points):
         pointer = PointerInput(POINTER_TOUCH, "finger") if self.is_phone else PointerInput("mouse", "mouse")
         actions = ActionBuilder(self.driver, mouse=pointer, duration=40)
