@@ -163,9 +163,7 @@ fn refused_files_make_no_store() {
 /// Buffers grow from nothing, more than once, and serve the next run.
 #[test]
 fn buffers_grow() {
-    let n = 200;
-    let pairs: Vec<(u16, u16)> = (0..n).flat_map(|a| (0..n).map(move |b| (a, b))).collect();
-    let store = Store::load(&graph(n.into(), &pairs).file()).unwrap();
+    let store = dense(200);
     let (query, plan) = (Query::plain(2, &[(0, 1)]).file(), plan::file(&[Scan(0)]));
     let mut buffers = Buffers::new();
     for _ in 0..2 {
@@ -176,13 +174,43 @@ fn buffers_grow() {
     }
 }
 
+/// All pairs of so many vertices, loops too, as a store.
+fn dense(n: u16) -> Store {
+    let pairs: Vec<(u16, u16)> = (0..n).flat_map(|a| (0..n).map(move |b| (a, b))).collect();
+    Store::load(&graph(n.into(), &pairs).file()).unwrap()
+}
+
+/// Besides its need a scratch has room for rows that are bounded, counted, or known from the run before: for them and for a set of each
+/// extend, of the longest list.
+#[test]
+fn a_scratch_has_room_for_the_rows() {
+    let store = dense(60);
+    let grown = |query: &[u8], plan: &[u8], mut buffers: Buffers| {
+        let words = store.run_growing(query, plan, Cache::On, &mut buffers).unwrap().words().len();
+        let (first, second) = (buffers.words(), store.run_growing(query, plan, Cache::On, &mut buffers).unwrap());
+        assert_eq!((second.words().len(), buffers.words()), (words, first), "the next run has what it takes");
+        (words, first)
+    };
+    // A bound of all edges, which is little beside the store: a row for each.
+    let (edge, scan) = (Query::plain(2, &[(0, 1)]).file(), plan::file(&[Scan(0)]));
+    assert_eq!(grown(&edge, &scan, Buffers::new()), (2 * 60 * 59, (2 + 2 * 60 * 60, 2 * 60 * 60)));
+    // A larger one has no room, and the rows that came have it afterwards.
+    let (path, plan) = (Query::plain(3, &[(0, 1), (1, 2)]).file(), plan::file(&[Scan(0), Extend(2)]));
+    let (words, need) = (3 * 60 * 59 * 58, 2 + 3 + 60);
+    assert_eq!(grown(&path, &plan, Buffers::new()), (words, (need + words + 60, 3 * 60 * 60 * 60)));
+    // Counted rows have a list of just their words.
+    assert_eq!(grown(&path, &plan, Buffers::with_words(1, 0)), (words, (need + words + 60, words)));
+    // A drawn plan begins with four times the store's words of list.
+    let mut buffers = Buffers::new();
+    store.run_drawn(&edge, Cache::On, &mut buffers).unwrap();
+    assert_eq!(buffers.words(), (1 << 14, 4 * store.words().len()));
+}
+
 /// A result of many rows in buffers of which the scratch has just the need, and a list that grows; and in a scratch that grows, beside a
 /// list that is long enough.
 #[test]
 fn either_buffer_grows() {
-    let n = 60;
-    let pairs: Vec<(u16, u16)> = (0..n).flat_map(|a| (0..n).map(move |b| (a, b))).collect();
-    let store = Store::load(&graph(n.into(), &pairs).file()).unwrap();
+    let store = dense(60);
     let (query, plan) = (Query::plain(3, &[(0, 1), (1, 2)]).file(), plan::file(&[Scan(0), Extend(2)]));
     let (rows, need) = (60 * 59 * 58, 2 + 3 + 60);
     for (scratch, list) in [(need, 0), (0, 3 * rows), (need, 3 * rows), (1 << 20, 1 << 20)] {

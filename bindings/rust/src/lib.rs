@@ -56,11 +56,11 @@
 //! # Buffers
 //!
 //! A [`Store`] owns the words of a graph. A run needs scratch, a list for its rows, and a record for each operator. [`run`] and
-//! [`Store::run`] borrow them from the caller and refuse a run for which they are too short; [`Store::run_growing`] counts the rows first,
-//! makes a list that they fit, and has records for the longest plan. [`Store::count`] counts them and lists none. [`find`] and
+//! [`Store::run`] borrow them from the caller and refuse a run for which they are too short; [`Store::run_growing`] sets aside what the
+//! plan's bounds tell, makes a list that the rows fit, and has records for the longest plan. [`Store::count`] counts them and lists none. [`find`] and
 //! [`Store::find`] draw the plan that they run, which [`Store::run_drawn`] does in buffers that grow: the store is checked once and not twice.
-//! The scratch is zero after every run, refused ones too. It does not hold the rows: but for a join's build side, a run needs little of it,
-//! whatever it lists.
+//! The scratch is zero after every run, refused ones too. It need not hold the rows: but for a join's build side, a run needs little of it,
+//! whatever it lists. With room for them it finds them once and not twice.
 
 #![deny(unsafe_code)]
 #![warn(missing_docs)]
@@ -69,6 +69,7 @@
 compile_error!("the static library is for x86-64 Linux");
 
 mod engine;
+mod growing;
 mod operator;
 mod orderings;
 mod refusal;
@@ -81,9 +82,10 @@ pub use engine::{
     Bounds, Cache, Count, Found, Loaded, Run, MAX_DRAWN_BYTES, MAX_OPERATORS, MAX_ORDERING_VERTICES,
     MAX_ORDERING_WORDS, MAX_WORDS, PAGE_BYTES,
 };
+pub use growing::Buffers;
 pub use operator::{operators, Operator, Work};
 pub use orderings::{PlanOrder, PlanOrders};
 pub use refusal::Refusal;
 pub use sheet::Pages;
-pub use store::{Buffers, Matches, Store};
+pub use store::{Matches, Store};
 pub use sys::Record;

@@ -1,7 +1,7 @@
-//! A store that owns its words, and buffers that grow.
+//! A store that owns its words, and the matches of a run.
 use crate::operator::Operators;
 use crate::{apply_changes_into, bounds, count, draw_plan_into, find, load_into, run};
-use crate::{Bounds, Cache, Count, Record, Refusal, Run, Work, MAX_DRAWN_BYTES, MAX_OPERATORS, MAX_WORDS};
+use crate::{Bounds, Cache, Count, Record, Refusal, Run, Work, MAX_DRAWN_BYTES};
 
 /// A loaded graph: the words that the engine reads.
 #[derive(Clone, Debug, PartialEq, Eq)]
@@ -105,34 +105,6 @@ impl Store {
         count(&self.words, query, plan, cache, scratch)
     }
 
-    /// The same in a scratch that grows as far as it is needed.
-    pub fn count_in(&self, query: &[u8], plan: &[u8], cache: Cache, buffers: &mut Buffers) -> Result<Count, Refusal> {
-        self.count_growing(query, plan, cache, &mut buffers.scratch)
-    }
-
-    /// Runs a query by a plan that is drawn for it, in buffers that grow, as [`Store::run_growing`] does. Where they are long enough, plan and
-    /// run are made in one call, which checks the store once; buffers of no words begin at 16,384.
-    pub fn run_drawn<'b>(&self, query: &[u8], cache: Cache, buffers: &'b mut Buffers) -> Result<Matches<'b>, Refusal> {
-        let Buffers { scratch, list, records, plan } = buffers;
-        if scratch.is_empty() {
-            at_least(scratch, FIRST_WORDS);
-            at_least(list, FIRST_WORDS);
-        }
-        plan.resize(MAX_DRAWN_BYTES, 0);
-        let answer = match find(&self.words, query, plan, cache, scratch, list, records) {
-            Ok(found) => {
-                plan.truncate(found.bytes);
-                found.run
-            }
-            Err(Refusal::ScratchSmall | Refusal::ListSmall) => {
-                plan.truncate(drawn_bytes(query));
-                self.run_until_it_fits(query, plan, cache, scratch, list, records)?
-            }
-            Err(refusal) => return Err(refusal),
-        };
-        Ok(Matches::new(query, plan, answer, list, records))
-    }
-
     /// Draws a plan in bytes of the caller's, of which [`MAX_DRAWN_BYTES`] are always enough, and runs it in scratch, list and records of the
     /// caller's, as [`Store::run`] does.
     pub fn find<'l>(
@@ -161,134 +133,11 @@ impl Store {
         let answer = run(&self.words, query, plan, cache, scratch, list, records)?;
         Ok(Matches::new(query, plan, answer, list, records))
     }
-
-    /// Runs a plan in buffers that grow to what it takes, up to [`MAX_WORDS`] words each; they keep their size for the next run. Buffers
-    /// of no words begin at the plan's bounds where these are at most 1,048,576 words, so that such a run is made at once. Where there is
-    /// no list, or one that the rows do not fit, they are counted, and the run is made in a list that they fit.
-    ///
-    /// A scratch that is too short is made twice as long, as often as it takes: a run needs little of it, and is refused as soon as the need
-    /// passes it.
-    pub fn run_growing<'b>(
-        &self,
-        query: &[u8],
-        plan: &'b [u8],
-        cache: Cache,
-        buffers: &'b mut Buffers,
-    ) -> Result<Matches<'b>, Refusal> {
-        let Buffers { scratch, list, records, .. } = buffers;
-        let answer = self.run_until_it_fits(query, plan, cache, scratch, list, records)?;
-        Ok(Matches::new(query, plan, answer, list, records))
-    }
-
-    fn run_until_it_fits(
-        &self,
-        query: &[u8],
-        plan: &[u8],
-        cache: Cache,
-        scratch: &mut Vec<u32>,
-        list: &mut Vec<u32>,
-        records: &mut [Record],
-    ) -> Result<Run, Refusal> {
-        if scratch.is_empty() {
-            let bounds = self.bounds(query, plan)?;
-            set_aside(scratch, bounds.scratch_words);
-            set_aside(list, bounds.list_words);
-        }
-        if list.is_empty() {
-            self.fit_list(query, plan, cache, scratch, list)?;
-        }
-        loop {
-            match run(&self.words, query, plan, cache, scratch, list, records) {
-                Err(Refusal::ScratchSmall) if scratch.len() < MAX_WORDS => twice(scratch),
-                Err(Refusal::ListSmall) if list.len() < MAX_WORDS => {
-                    self.fit_list(query, plan, cache, scratch, list)?
-                }
-                answer => return answer,
-            }
-        }
-    }
-
-    /// A list that the rows of a run fit, by counting them: refused where none is long enough.
-    fn fit_list(
-        &self,
-        query: &[u8],
-        plan: &[u8],
-        cache: Cache,
-        scratch: &mut Vec<u32>,
-        list: &mut Vec<u32>,
-    ) -> Result<(), Refusal> {
-        let rows = self.count_growing(query, plan, cache, scratch)?.run.rows;
-        match rows.saturating_mul(width(query)) {
-            words if words <= MAX_WORDS => Ok(at_least(list, words)),
-            _ => Err(Refusal::ListSmall),
-        }
-    }
-
-    fn count_growing(&self, query: &[u8], plan: &[u8], cache: Cache, scratch: &mut Vec<u32>) -> Result<Count, Refusal> {
-        loop {
-            match count(&self.words, query, plan, cache, scratch) {
-                Err(Refusal::ScratchSmall) if scratch.len() < MAX_WORDS => twice(scratch),
-                answer => return answer,
-            }
-        }
-    }
 }
 
 /// How many words a row has: the number of the query's vertices, the first 4 bits of its file.
-fn width(query: &[u8]) -> usize {
+pub(crate) fn width(query: &[u8]) -> usize {
     usize::from(query[0] >> 4)
-}
-
-/// How many bytes a drawn plan has: a count of 5 bits, a scan of 7, and 5 for each of the other vertices.
-fn drawn_bytes(query: &[u8]) -> usize {
-    (12 + 5 * (width(query) - 2)).div_ceil(8)
-}
-
-/// Words of scratch and of list that a drawn plan is first run in, where there are none.
-const FIRST_WORDS: usize = 1 << 14;
-
-/// What a run is bounded by is set aside at once where it is little.
-const LITTLE: u64 = 1 << 20;
-
-/// At least so many words, where they are few.
-fn set_aside(buffer: &mut Vec<u32>, words: u64) {
-    if words <= LITTLE {
-        at_least(buffer, words as usize);
-    }
-}
-
-/// At least so many words, all of them zero if there were fewer: what the buffer held is not kept.
-fn at_least(buffer: &mut Vec<u32>, words: usize) {
-    if buffer.len() < words {
-        *buffer = Vec::new();
-        *buffer = vec![0; words];
-    }
-}
-
-/// Twice the words.
-fn twice(buffer: &mut Vec<u32>) {
-    at_least(buffer, (2 * buffer.len()).clamp(1024, MAX_WORDS));
-}
-
-/// Scratch and list for runs, grown as they ask for it, records for the longest plan, and the plan that was drawn last.
-#[derive(Clone, Debug, Default)]
-pub struct Buffers {
-    scratch: Vec<u32>,
-    list: Vec<u32>,
-    records: [Record; MAX_OPERATORS],
-    plan: Vec<u8>,
-}
-
-impl Buffers {
-    /// Buffers of no words.
-    pub fn new() -> Buffers {
-        Buffers::default()
-    }
-
-    /// Buffers of so many words of scratch and of list to begin with.
-    pub fn with_words(scratch: usize, list: usize) -> Buffers {
-        Buffers { scratch: vec![0; scratch], list: vec![0; list], ..Buffers::default() }
-    }
 }
 
 /// The matches of an accepted run: rows of the borrowed list. Beside them stands what each operator did.
@@ -308,7 +157,13 @@ pub struct Matches<'l> {
 
 impl<'l> Matches<'l> {
     /// Of an accepted run of a query and a plan.
-    fn new(query: &[u8], plan: &'l [u8], answer: Run, list: &'l [u32], records: &'l [Record]) -> Matches<'l> {
+    pub(crate) fn new(
+        query: &[u8],
+        plan: &'l [u8],
+        answer: Run,
+        list: &'l [u32],
+        records: &'l [Record],
+    ) -> Matches<'l> {
         let width = width(query);
         let Run { rows, cost, build, probe } = answer;
         Matches { words: &list[..rows * width], width, plan, records, cost, build, probe }
