@@ -1,7 +1,7 @@
 //! The proved engine, by the wrapper of its static library.
 
 use library::Cache;
-use rizhavaan_core::engine::{Answer, Bounds, Counted, Engine, Record, Refusal};
+use rizhavaan_core::engine::{Answer, Bounds, Counted, Engine, Lent, Record, Refusal};
 
 /// The static library.
 pub struct Library;
@@ -48,19 +48,11 @@ impl Engine for Library {
         Some(counted.map(|counted| Counted { answer: answer(counted.run), need: counted.need as u64 }))
     }
 
-    fn run(
-        &self,
-        store: &[u32],
-        query: &[u8],
-        plan: &[u8],
-        scratch: &mut [u32],
-        list: &mut [u32],
-        records: &mut [Record],
-    ) -> Result<Answer, Refusal> {
-        let mut lent = vec![library::Record::default(); records.len()];
-        let ran = library::run(store, query, plan, Cache::On, scratch, list, &mut lent).map_err(refused)?;
-        for (record, lent) in records.iter_mut().zip(lent) {
-            *record = Record { rows: lent.rows, cost: lent.cost };
+    fn run(&self, store: &[u32], query: &[u8], plan: &[u8], lent: Lent) -> Result<Answer, Refusal> {
+        let mut records = vec![library::Record::default(); lent.records.len()];
+        let ran = library::run(store, query, plan, Cache::On, lent.scratch, lent.list, &mut records).map_err(refused)?;
+        for (record, made) in lent.records.iter_mut().zip(records) {
+            *record = Record { rows: made.rows, cost: made.cost };
         }
         Ok(answer(ran))
     }

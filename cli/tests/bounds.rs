@@ -6,7 +6,7 @@ mod engine;
 use std::sync::Mutex;
 
 use engine::Library;
-use rizhavaan_core::engine::{Answer, Bounds, Counted, Engine, Record, Refusal};
+use rizhavaan_core::engine::{Answer, Bounds, Counted, Engine, Lent, Refusal};
 use rizhavaan_core::{read, Choice, Loaded, Options, Source};
 
 /// The library, and the words of scratch and list that each run was lent.
@@ -35,17 +35,9 @@ impl Engine for Watched {
         Library.count(store, query, plan, scratch)
     }
 
-    fn run(
-        &self,
-        store: &[u32],
-        query: &[u8],
-        plan: &[u8],
-        scratch: &mut [u32],
-        list: &mut [u32],
-        records: &mut [Record],
-    ) -> Result<Answer, Refusal> {
-        self.0.lock().unwrap().push((scratch.len(), list.len()));
-        Library.run(store, query, plan, scratch, list, records)
+    fn run(&self, store: &[u32], query: &[u8], plan: &[u8], lent: Lent) -> Result<Answer, Refusal> {
+        self.0.lock().unwrap().push((lent.scratch.len(), lent.list.len()));
+        Library.run(store, query, plan, lent)
     }
 }
 
@@ -91,15 +83,35 @@ fn a_little_bound_is_set_aside_at_once() {
     assert_eq!((found, &runs[..]), (places, &[(FIRST, 0)][..]));
 }
 
-/// A large bound is not: a run that does not fit is counted, and made again in just the words that it takes.
+/// A large bound is not: a run that does not fit is counted, and made again in a list of just the words that it takes. Room for rows is for a
+/// set of the longest list too, where the plan has an extend.
 #[test]
 fn a_large_bound_is_not() {
     let (found, runs) = find(&dense(90, PATH), &DRAWN);
     let words = 3 * 90 * 89 * 88;
     assert_eq!(3 * found, words);
-    // The rows are too many to have room besides.
-    assert_eq!(runs[..2], [(2 * FIRST, FIRST), (2 * FIRST, 0)]);
-    assert!(runs.len() == 3 && runs[2].0 < 200 && runs[2].1 == words, "{runs:?}");
+    let (set, need) = (89, 2 + 3 + 89);
+    assert_eq!(runs, [(2 * FIRST + set, FIRST), (2 * FIRST + set, 0), (need + words + set, words)]);
+}
+
+/// Where the bounds are large and a picked plan's list is thought to be little, the scratch has room for that list.
+#[test]
+fn an_estimated_list_has_room() {
+    let mut text = String::from("[graph]\nvertices 2001\n");
+    for i in 0..2_000 {
+        text += &format!("2000 -1-> {i}\n{i} -1-> 2000\n{i} -1-> {}\n", (i + 1) % 2_000);
+    }
+    text += "[query]\nvertices 3\n0 -1-> 1\n0 -1-> 2\n1 -1-> 2\n";
+    let sources = [Source::new("hang.txt", text.as_str())];
+    let document = read(&sources).document.unwrap();
+    let loaded = Loaded::load(&Library, &document).unwrap();
+    let query = document.patterns[0].query.to_bytes();
+    let picked = loaded.pick(&query, DRAWN.memory).unwrap();
+    let bounds = Library.bounds(loaded.store(), &query, &picked.plan).unwrap();
+    let (found, runs) = find(&text, &Options { plan: Choice::Picked, ..DRAWN });
+    let (scratch, list) = (bounds.scratch_words as usize, picked.list as usize);
+    assert!(found == 6_000 && list >= 18_000 && bounds.list_words > 1 << 20, "{found}, {list}, {bounds:?}");
+    assert_eq!(runs, [(scratch.max(FIRST) + list + 2_001, list)]);
 }
 
 /// A join's scratch, whose build side is held whole, is set aside too, though its list is long.
@@ -110,6 +122,8 @@ fn the_scratch_of_a_join() {
     assert_eq!(found, 120 * 119 * 118);
     assert!(runs[0].0 > 3 * FIRST && runs[0].1 == FIRST, "{runs:?}");
     assert_eq!(runs.len(), 3, "the scratch fits at once: {runs:?}");
+    // So long a list has no room.
+    assert!(runs[2].0 < runs[2].1, "{runs:?}");
 }
 
 /// Where little memory is allowed, no more than a part of it is set aside at first, and never more than all of it.

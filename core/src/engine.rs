@@ -2,6 +2,8 @@
 //!
 //! A shell lends the engine in: the program over the wrapper in `bindings/rust/`, the page over the same functions as WebAssembly.
 
+use crate::picker::store::Store;
+
 /// The number of a refusal.
 #[derive(Clone, Copy, Debug, PartialEq, Eq)]
 pub struct Refusal(pub u32);
@@ -40,6 +42,13 @@ pub struct Bounds {
     pub largest: u64,
 }
 
+/// What a run writes to: scratch, the list for its rows, and records for its operators.
+pub struct Lent<'l> {
+    pub scratch: &'l mut [u32],
+    pub list: &'l mut [u32],
+    pub records: &'l mut [Record],
+}
+
 /// The operations of the static library, each over slices that the caller lends.
 pub trait Engine: Sync {
     /// Load: vertices and edges.
@@ -58,15 +67,7 @@ pub trait Engine: Sync {
     }
 
     /// Run, with the cache on.
-    fn run(
-        &self,
-        store: &[u32],
-        query: &[u8],
-        plan: &[u8],
-        scratch: &mut [u32],
-        list: &mut [u32],
-        records: &mut [Record],
-    ) -> Result<Answer, Refusal>;
+    fn run(&self, store: &[u32], query: &[u8], plan: &[u8], lent: Lent) -> Result<Answer, Refusal>;
 
     /// All orderings: how many there are. A shell that lists none leaves it.
     fn orderings(&self, store: &[u32], query: &[u8], scratch: &mut [u32], words: &mut [u32]) -> Result<u64, Refusal> {
@@ -147,17 +148,16 @@ impl Default for First {
     }
 }
 
-/// A bound of at most so many words is set aside at once.
+/// A bound of at most so many words is set aside at once, and an estimated list of so many has room in the scratch.
 const LITTLE: u64 = 1 << 20;
 
-/// Room that a run is lent besides the scratch that it needs: in one that holds the rows too they are found once and not twice. For long lists
-/// fresh memory takes longer than that.
-fn room(list: usize) -> usize {
-    if list as u64 <= LITTLE {
-        list
-    } else {
-        0
-    }
+/// A counted list of more words has no room in the scratch: its rows are found twice rather than kept twice.
+const LONG: usize = 1 << 22;
+
+/// Words of scratch besides its need in which a run finds a list of so many words once and not twice: its first pass keeps the rows beside as
+/// many words as the sets of its extends could have, each no more than the longest list of the store.
+fn room(store: &[u32], width: usize, list: usize) -> usize {
+    list + width.saturating_sub(2) * Store::of(store).map_or(0, |store| store.longest_list())
 }
 
 impl First {
@@ -186,11 +186,14 @@ pub fn run_growing(
     first: First,
 ) -> Result<Ran, NoRun> {
     let first = first.within(memory);
-    let mut scratch = vec![0; first.scratch + room(first.list)];
+    let left = (memory / 4).saturating_sub(first.scratch + first.list);
+    let room = if first.list as u64 <= LITTLE { room(store, width, first.list).min(left) } else { 0 };
+    let mut scratch = vec![0; first.scratch + room];
     let mut list = vec![0; first.list];
     let mut records = vec![Record::default(); MAX_OPERATORS];
     loop {
-        let answer = engine.run(store, query, plan, &mut scratch, &mut list, &mut records);
+        let lent = Lent { scratch: &mut scratch, list: &mut list, records: &mut records };
+        let answer = engine.run(store, query, plan, lent);
         let (grown, other) = match answer {
             Ok(answer) => {
                 drop(scratch);
@@ -201,7 +204,7 @@ pub fn run_growing(
             Err(Refusal(21)) if list.len() < MAX_WORDS => {
                 // It went through all rows to be refused; counted, they fit the next time.
                 if let Some(Ok(counted)) = engine.count(store, query, plan, &mut scratch) {
-                    fit(&counted, width, memory, &mut scratch, &mut list)?;
+                    fit(&counted, store, width, memory, &mut scratch, &mut list)?;
                     continue;
                 }
                 (&mut list, &scratch)
@@ -221,6 +224,7 @@ pub fn run_growing(
 /// A list that the counted rows fit, beside the scratch that they need, with room where there is memory left.
 fn fit(
     counted: &Counted,
+    store: &[u32],
     width: usize,
     memory: usize,
     scratch: &mut Vec<u32>,
@@ -233,8 +237,9 @@ fn fit(
         Some(left) => left,
         None => return Err(NoRun::Memory { scratch: need, list: words, counted: true }),
     };
+    let room = if words <= LONG { room(store, width, words) } else { 0 };
     (*scratch, *list) = (Vec::new(), Vec::new());
-    (*scratch, *list) = (vec![0; (need + room(words)).min(left)], vec![0; words]);
+    (*scratch, *list) = (vec![0; (need + room).min(left)], vec![0; words]);
     Ok(())
 }
 

@@ -1,6 +1,6 @@
 //! An engine that answers wrongly is found out: no list, but a sentence.
 
-use rizhavaan_core::engine::{Answer, Engine, Record, Refusal};
+use rizhavaan_core::engine::{Answer, Engine, Lent, Refusal};
 use rizhavaan_core::{find_json, read, Choice, Failure, Loaded, Options, Origin, Source};
 
 /// An engine with a list ready, whatever it is asked.
@@ -25,16 +25,8 @@ impl Engine for Ready {
         Ok(self.plan.len() as u64)
     }
 
-    fn run(
-        &self,
-        _: &[u32],
-        _: &[u8],
-        _: &[u8],
-        _: &mut [u32],
-        list: &mut [u32],
-        _: &mut [Record],
-    ) -> Result<Answer, Refusal> {
-        list[..self.rows.len()].copy_from_slice(&self.rows);
+    fn run(&self, _: &[u32], _: &[u8], _: &[u8], lent: Lent) -> Result<Answer, Refusal> {
+        lent.list[..self.rows.len()].copy_from_slice(&self.rows);
         Ok(Answer { rows: (self.rows.len() / self.width) as u64, ..Answer::default() })
     }
 }
@@ -141,17 +133,9 @@ impl Engine for Particular {
         self.ready.draw_plan(store, query, plan)
     }
 
-    fn run(
-        &self,
-        store: &[u32],
-        query: &[u8],
-        plan: &[u8],
-        scratch: &mut [u32],
-        list: &mut [u32],
-        records: &mut [Record],
-    ) -> Result<Answer, Refusal> {
+    fn run(&self, store: &[u32], query: &[u8], plan: &[u8], lent: Lent) -> Result<Answer, Refusal> {
         match plan == self.ready.plan {
-            true => self.ready.run(store, query, plan, scratch, list, records),
+            true => self.ready.run(store, query, plan, lent),
             false => Err(Refusal(self.refusal)),
         }
     }

@@ -58,6 +58,13 @@ impl<'s> Store<'s> {
         &entries[offsets[v as usize] as usize..offsets[v as usize + 1] as usize]
     }
 
+    /// The most entries of a vertex in either direction, as far as there are vertices.
+    pub fn longest_list(&self) -> usize {
+        let lists = self.sides.iter().flat_map(|(offsets, _)| offsets.windows(2));
+        let longest = lists.map(|ends| ends[1].saturating_sub(ends[0])).max().unwrap_or(0);
+        self.vertices().min(longest as usize)
+    }
+
     /// A vertex's portion for an edge label; the whole list for label 0.
     #[inline]
     pub fn portion(&self, direction: Direction, v: u32, label: u32) -> &'s [u32] {

@@ -2,7 +2,7 @@
 //!
 //! A length has 64 bits there on every target, a pointer as many as the target's.
 
-use rizhavaan_core::engine::{Answer, Bounds, Counted, Engine, Record, Refusal};
+use rizhavaan_core::engine::{Answer, Bounds, Counted, Engine, Lent, Record, Refusal};
 
 extern "C" {
     fn rizhavaan_load(
@@ -171,15 +171,8 @@ impl Engine for Library {
         accepted(status, bytes)
     }
 
-    fn run(
-        &self,
-        store: &[u32],
-        query: &[u8],
-        plan: &[u8],
-        scratch: &mut [u32],
-        list: &mut [u32],
-        records: &mut [Record],
-    ) -> Result<Answer, Refusal> {
+    fn run(&self, store: &[u32], query: &[u8], plan: &[u8], lent: Lent) -> Result<Answer, Refusal> {
+        let Lent { scratch, list, records } = lent;
         let mut answer = Answer::default();
         let status = unsafe {
             rizhavaan_run(
