@@ -1,6 +1,7 @@
 //! Count against the judge's rules, and runs in just the words that it tells.
 use judge::calls::{self, Input};
 use judge::compare::Case;
+use judge::damaged;
 use judge::graph::Graph;
 use judge::plan::{self, Operator};
 use judge::query::Query;
@@ -79,18 +80,7 @@ fn random_plans() {
 fn refused_files() {
     let mut seen = [0; 27];
     each(0..10_000, |r| {
-        let query = Query::random(r, 6);
-        let mut operators = plan::random(r, &query);
-        if r.chance(1, 2) {
-            plan::disturb(r, &query, &mut operators);
-        }
-        let (mut query, mut plan) = (query.file(), plan::file(&operators));
-        if r.chance(1, 3) {
-            r.damage(&mut query);
-        }
-        if r.chance(1, 3) {
-            r.damage(&mut plan);
-        }
+        let (query, plan) = damaged::query_and_plan(r);
         let refusal = Query::read(&query).and_then(|query| plan::read(&query, &plan)).err().unwrap_or(19);
         let count = r.below(40);
         let (store, scratch) = (r.words(count), r.below(30));

@@ -1,5 +1,6 @@
 //! Drawn plans against the judge's, in bytes of every length, and their rows against matches found by backtracking.
 use judge::calls::{self, Input};
+use judge::damaged;
 use judge::drawn;
 use judge::graph::Graph;
 use judge::matcher::Matcher;
@@ -123,22 +124,7 @@ fn rows_of_drawn_plans() {
 fn damaged_files_and_stores() {
     let mut seen = [0; 27];
     each(0..30_000, |r| {
-        let mut store = Graph::random(r, 7).store();
-        let mut query = Query::random(r, 8);
-        match r.below(20) {
-            0 => query.days[0] = (r.day(), 0),
-            1 => query.edges.truncate(1),
-            2 => query.pairs = vec![(r.below(8), r.below(8)); 1 + r.below(2)],
-            _ => (),
-        }
-        let mut query = query.file();
-        if r.chance(1, 2) {
-            r.damage(&mut query);
-        }
-        if r.chance(1, 2) {
-            let at = r.below(store.len());
-            store[at] = store[at].wrapping_add([1, 65_536, u32::MAX][r.below(3)]);
-        }
+        let (store, query) = damaged::store_and_query(r);
         let room = r.below(8);
         seen[compare(r, &store, &query, room) as usize] += 1;
     });

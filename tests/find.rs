@@ -1,6 +1,7 @@
 //! Find against Draw plan and then Run, and against the judge's rules: on every input, refused ones too.
 use judge::calls::{self, Input, Ran};
 use judge::compare::Case;
+use judge::damaged;
 use judge::drawn;
 use judge::found::{find, Lengths};
 use judge::graph::Graph;
@@ -90,22 +91,7 @@ fn as_draw_plan_and_run() {
 fn damaged_files_and_stores() {
     let mut seen = [0; 31];
     each(0..30_000, |r| {
-        let mut store = Graph::random(r, 7).store();
-        let mut query = Query::random(r, 8);
-        match r.below(20) {
-            0 => query.days[0] = (r.day(), 0),
-            1 => query.edges.truncate(1),
-            2 => query.pairs = vec![(r.below(8), r.below(8)); 1 + r.below(2)],
-            _ => (),
-        }
-        let mut query = query.file();
-        if r.chance(1, 2) {
-            r.damage(&mut query);
-        }
-        if r.chance(1, 2) {
-            let at = r.below(store.len());
-            store[at] = store[at].wrapping_add([1, 65_536, u32::MAX][r.below(3)]);
-        }
+        let (store, query) = damaged::store_and_query(r);
         let lengths = Lengths { plan: r.below(8), scratch: r.below(200), list: r.below(200), records: r.below(9) };
         let cache = r.chance(1, 2);
         seen[compare(r, &store, &query, cache, lengths) as usize] += 1;

@@ -3,22 +3,12 @@ use judge::cases::{case, hold, joined, Worked};
 use judge::graph::{Edge, Graph};
 use judge::plan::Operator;
 use judge::query::Query;
-use judge::worked::graph;
+use judge::worked::{graph, pin, star};
 use Operator::{Extend, Join, Scan};
 
 /// The path through so many vertices.
 fn path(n: usize) -> Query {
     Query::plain(n, &(1..n).map(|v| (v - 1, v)).collect::<Vec<_>>())
-}
-
-/// Vertex 0 with edges to all others.
-fn star(n: usize) -> Query {
-    Query::plain(n, &(1..n).map(|v| (0, v)).collect::<Vec<_>>())
-}
-
-/// The same as a graph.
-fn pin(motors: u16) -> Graph {
-    graph(1 + usize::from(motors), &(1..=motors).map(|motor| (0, motor)).collect::<Vec<_>>())
 }
 
 /// 0→1, 1→2 and so on, and back to 0.

@@ -7,7 +7,7 @@ use judge::program::{printed, FILES};
 use judge::query::{random_pairs, Pair, Query};
 use judge::random::{each, Random};
 use judge::rules;
-use judge::worked::{g, graph, triangle};
+use judge::worked::{g, graph, pin, star, triangle};
 use rizhavaan::{Buffers, Cache, Refusal, Store};
 use std::path::Path;
 use Operator::{Extend, Join, Scan};
@@ -29,15 +29,6 @@ fn clique(n: u16) -> Graph {
 
 fn line() -> Graph {
     two_way(3, &[(0, 1), (1, 2)])
-}
-
-/// Vertex 0 with edges to all others.
-fn star(n: usize) -> Query {
-    Query::plain(n, &(1..n).map(|v| (0, v)).collect::<Vec<_>>())
-}
-
-fn pin(motors: u16) -> Graph {
-    graph(1 + usize::from(motors), &(1..=motors).map(|motor| (0, motor)).collect::<Vec<_>>())
 }
 
 fn scanned() -> Vec<Worked> {

@@ -1,6 +1,7 @@
 //! Run against matches found by backtracking, and the rules on order, cost and need.
 use judge::calls::{self, Input};
 use judge::compare::Case;
+use judge::damaged;
 use judge::graph::Graph;
 use judge::plan;
 use judge::query::Query;
@@ -108,18 +109,7 @@ fn every_number_of_records() {
 fn refused_files() {
     let mut seen = [0; 27];
     each(0..10_000, |r| {
-        let query = Query::random(r, 6);
-        let mut operators = plan::random(r, &query);
-        if r.chance(1, 2) {
-            plan::disturb(r, &query, &mut operators);
-        }
-        let (mut query, mut plan) = (query.file(), plan::file(&operators));
-        if r.chance(1, 3) {
-            r.damage(&mut query);
-        }
-        if r.chance(1, 3) {
-            r.damage(&mut plan);
-        }
+        let (query, plan) = damaged::query_and_plan(r);
         let records = r.below(12);
         let refusal = match Query::read(&query).and_then(|query| plan::read(&query, &plan)) {
             Err(refusal) => refusal,

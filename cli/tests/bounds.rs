@@ -111,7 +111,7 @@ fn an_estimated_list_has_room() {
     let (found, runs) = find(&text, &Options { plan: Choice::Picked, ..DRAWN });
     let (scratch, list) = (bounds.scratch_words as usize, picked.list as usize);
     assert!(found == 6_000 && list >= 18_000 && bounds.list_words > 1 << 20, "{found}, {list}, {bounds:?}");
-    assert_eq!(runs, [(scratch.max(FIRST) + list + 2_001, list)]);
+    assert_eq!(runs, [(scratch.max(FIRST) + list + 2_000, list)]);
 }
 
 /// A join's scratch, whose build side is held whole, is set aside too, though its list is long.

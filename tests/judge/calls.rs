@@ -43,6 +43,15 @@ impl<T: Copy + PartialEq + std::fmt::Debug> Lent<T> {
         assert_eq!(self.all[end..], self.before[end..], "words after the {what} are changed");
         self.all[GUARD..end].to_vec()
     }
+
+    /// The first of the contents after the call; nothing behind or around them is changed.
+    pub(super) fn contents_up_to(self, count: usize, what: &str) -> Vec<T> {
+        let past = GUARD + count..GUARD + self.len();
+        assert_eq!(self.all[past.clone()], self.before[past], "the {what} is changed past its last one");
+        let mut contents = self.contents(what);
+        contents.truncate(count);
+        contents
+    }
 }
 
 pub(super) fn bytes(r: &Random, contents: &[u8]) -> Lent<u8> {
@@ -281,6 +290,36 @@ pub struct Ran {
     pub records: Vec<Record>,
 }
 
+/// What a run is lent to write to, each holding arbitrary words.
+pub(super) struct Buffers {
+    pub(super) scratch: Lent<u32>,
+    pub(super) list: Lent<u32>,
+    pub(super) records: Lent<Record>,
+}
+
+impl Buffers {
+    pub(super) fn new(r: &Random, scratch: usize, list: usize, records: usize) -> Buffers {
+        let record = || Record { rows: r.next(), cost: r.next() };
+        let before: Vec<Record> = (0..records).map(|_| record()).collect();
+        Buffers {
+            scratch: words(r, &r.words(scratch)),
+            list: words(r, &r.words(list)),
+            records: Lent::new(&before, record),
+        }
+    }
+
+    /// What is in them after a run of rows of so many words by a plan of so many operators. The scratch is zero, and past the rows and records
+    /// of an accepted run nothing is changed.
+    pub(super) fn after(self, refusal: u32, numbers: [u64; 4], width: usize, operators: usize) -> Ran {
+        let [rows, cost, build, probe] = numbers;
+        let (end, operators) = if refusal == 0 { (rows as usize * width, operators) } else { (0, 0) };
+        assert!(self.scratch.contents("scratch").iter().all(|&word| word == 0), "the scratch is not zero");
+        let list = self.list.contents_up_to(end, "list");
+        let records = self.records.contents_up_to(operators, "list of records");
+        Ran { refusal, rows, cost, build, probe, list, records }
+    }
+}
+
 /// Count in a scratch of this length, which holds arbitrary words: the refusal, and rows, cost, build, probe and need. The scratch is zero
 /// afterwards.
 pub fn count(r: &Random, input: &Input, scratch: usize) -> (u32, [u64; 5]) {
@@ -325,13 +364,7 @@ pub fn run(r: &Random, input: &Input, scratch: usize, list: usize) -> Ran {
 pub fn run_recording(r: &Random, input: &Input, scratch: usize, list: usize, records: usize) -> Ran {
     let store = words(r, input.store);
     let (query, plan) = (bytes(r, input.query), bytes(r, input.plan));
-    let contents = r.words(scratch);
-    let mut scratch = words(r, &contents);
-    let contents = r.words(list);
-    let mut list = words(r, &contents);
-    let record = || Record { rows: r.next(), cost: r.next() };
-    let before: Vec<Record> = (0..records).map(|_| record()).collect();
-    let mut records = Lent::new(&before, record);
+    let mut lent = Buffers::new(r, scratch, list, records);
     let mut numbers = Numbers::<4>::new(r);
     let [rows, cost, build, probe] = numbers.pointers();
     // SAFETY: as above.
@@ -344,12 +377,12 @@ pub fn run_recording(r: &Random, input: &Input, scratch: usize, list: usize, rec
             plan.pointer(),
             plan.len(),
             input.cache,
-            scratch.pointer_mut(),
-            scratch.len(),
-            list.pointer_mut(),
-            list.len(),
-            records.pointer_mut(),
-            records.len(),
+            lent.scratch.pointer_mut(),
+            lent.scratch.len(),
+            lent.list.pointer_mut(),
+            lent.list.len(),
+            lent.records.pointer_mut(),
+            lent.records.len(),
             rows,
             cost,
             build,
@@ -359,22 +392,11 @@ pub fn run_recording(r: &Random, input: &Input, scratch: usize, list: usize, rec
     store.assert_untouched("store");
     query.assert_untouched("query");
     plan.assert_untouched("plan");
-    assert!(scratch.contents("scratch").iter().all(|&word| word == 0), "the scratch is not zero");
-    if refusal != 0 {
-        list.assert_untouched("list");
-        records.assert_untouched("list of records");
-    }
-    let mut after = list.contents("list");
-    let [rows, cost, build, probe] = numbers.after(refusal);
-    let end = rows as usize * usize::from(input.query.first().map_or(0, |byte| byte >> 4));
-    assert_eq!(after[end..], contents[end..], "the list is changed past its last row");
-    after.truncate(end);
-    let mut records = records.contents("records");
-    let operators = match refusal {
-        0 => usize::from(input.plan[0] >> 3),
-        _ => 0,
-    };
-    assert_eq!(records[operators..], before[operators..], "the records are changed past the last operator");
-    records.truncate(operators);
-    Ran { refusal, rows, cost, build, probe, list: after, records }
+    let [width, operators] = [(input.query, 4), (input.plan, 3)].map(|(file, shift)| first_byte(file) >> shift);
+    lent.after(refusal, numbers.after(refusal), width, operators)
+}
+
+/// The first byte of a file, or 0.
+pub(super) fn first_byte(file: &[u8]) -> usize {
+    file.first().map_or(0, |&byte| byte.into())
 }

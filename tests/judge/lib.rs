@@ -7,6 +7,7 @@ pub mod calls;
 pub mod cases;
 pub mod changes;
 pub mod compare;
+pub mod damaged;
 pub mod drawn;
 pub mod found;
 pub mod graph;

@@ -39,3 +39,13 @@ pub fn triangle() -> Query {
 pub fn diamond() -> Query {
     Query::plain(4, &[(0, 1), (0, 2), (1, 2), (1, 3), (2, 3)])
 }
+
+/// Vertex 0 with edges to all others.
+pub fn star(n: usize) -> Query {
+    Query::plain(n, &(1..n).map(|v| (0, v)).collect::<Vec<_>>())
+}
+
+/// The same as a graph: a pin that so many motors hang on.
+pub fn pin(motors: u16) -> Graph {
+    graph(1 + usize::from(motors), &(1..=motors).map(|motor| (0, motor)).collect::<Vec<_>>())
+}
