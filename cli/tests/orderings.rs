@@ -4,7 +4,7 @@ mod common;
 
 use std::fs;
 
-use common::{examples, folder, patterns, rows, run};
+use common::{beside_drawn, examples, folder, run};
 
 /// The triangle's hang: connections of one kind 0→1, 0→2, 1→2, 1→3, 2→3.
 const HANG: &str = "[graph]\nvertices 4\n0 -1-> 1\n0 -1-> 2\n1 -1-> 2\n1 -1-> 3\n2 -1-> 3\n\n[query]\nvertices 3\n0 -1-> 1\n0 -1-> 2\n1 -1-> 2\n";
@@ -12,22 +12,9 @@ const HANG: &str = "[graph]\nvertices 4\n0 -1-> 1\n0 -1-> 2\n1 -1-> 2\n1 -1-> 3\
 /// The cheapest plan lists what the drawn one lists, at a cost no higher.
 #[test]
 fn every_small_example() {
-    let mut count = 0;
-    for example in examples() {
-        let (_, drawn, _) = run(&example, &["find", ".", "--plan", "drawn", "--json"]);
-        let (status, cheapest, err) = run(&example, &["find", ".", "--plan", "cheapest", "--json"]);
-        if status == 2 {
-            assert!(err.contains("with 31"), "{example:?}: {err}");
-            continue;
-        }
-        for (cheapest, drawn) in patterns(&cheapest).iter().zip(&patterns(&drawn)) {
-            assert_eq!(rows(cheapest), rows(drawn), "{example:?}");
-            assert_eq!(cheapest["planFrom"], "cheapest");
-            assert!(cheapest["cost"].as_u64() <= drawn["cost"].as_u64(), "{example:?}");
-            count += 1;
-        }
-    }
-    assert!(count >= 4, "{count} patterns");
+    let both = beside_drawn("cheapest", |status, err| assert!(status == 2 && err.contains("with 31"), "{err}"));
+    assert!(both.iter().all(|(cheapest, drawn)| cheapest["cost"].as_u64() <= drawn["cost"].as_u64()), "{both:?}");
+    assert!(both.len() >= 4, "{} patterns", both.len());
 }
 
 #[test]

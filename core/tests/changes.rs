@@ -3,7 +3,7 @@
 
 mod common;
 
-use common::{parse, Parsed};
+use common::{parse, refused, Parsed};
 use rizhavaan_core::packed::change::{broken_rule, Change, Changes};
 use rizhavaan_core::packed::edge::Edge;
 use rizhavaan_core::packed::graph::Graph;
@@ -27,14 +27,9 @@ fn changes(lines: &str) -> Vec<(bool, u32, u32, u32)> {
     read.changes.iter().map(fields).collect()
 }
 
-fn refused(text: &str) -> String {
-    let note = parse(text.as_bytes()).expect_err(text);
-    format!("{}: {}", note.line, note.reason)
-}
-
+/// The warning for the lines, if there is one.
 fn warning(lines: &str) -> Option<String> {
-    let note = parsed(lines).warning?;
-    Some(format!("{}: {}", note.line, note.reason))
+    parsed(lines).warning.map(|note| note.to_string())
 }
 
 #[test]

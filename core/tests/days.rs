@@ -156,12 +156,6 @@ fn ranges_of_days() {
     }
 }
 
-/// The line and reason that a text is refused with.
-fn refused_text(text: &str) -> String {
-    let note = parse(text.as_bytes()).expect_err(text);
-    format!("{}: {}", note.line, note.reason)
-}
-
 #[test]
 fn days_of_a_graph() {
     let text = "[graph]\nvertex a label 3 day 2026-11-15\nvertex b day 7\n\
@@ -193,7 +187,7 @@ fn faulty_days_of_a_graph() {
     ] {
         for start in ["vertex b", "vertices 2"] {
             let text = format!("[graph]\nvertex a\n{start} {words}\na -1-> a\n");
-            assert_eq!(refused_text(&text), format!("3: {message}"));
+            assert_eq!(common::refused(&text), format!("3: {message}"));
         }
     }
 }
@@ -231,7 +225,7 @@ fn faulty_days_of_a_query() {
     ] {
         for start in ["vertex b", "vertices 2"] {
             let text = format!("[query]\nvertex a\n{start} {words}\na -1-> 1\n");
-            assert_eq!(refused_text(&text), format!("3: {message}"));
+            assert_eq!(common::refused(&text), format!("3: {message}"));
         }
     }
 }

@@ -3,7 +3,7 @@
 
 mod common;
 
-use common::{parse, Parsed};
+use common::{parse, refused, Parsed};
 use rizhavaan_core::packed::bits::BitWriter;
 use rizhavaan_core::packed::edge::FileFault;
 use rizhavaan_core::packed::pair::{contradiction, Pair};
@@ -25,15 +25,9 @@ fn pairs(lines: &str) -> Vec<(u32, u32)> {
     query.pairs.iter().map(|p| (p.low, p.high)).collect()
 }
 
-fn refused(text: &str) -> String {
-    let note = parse(text.as_bytes()).expect_err(text);
-    format!("{}: {}", note.line, note.reason)
-}
-
 /// The warning for the lines, if there is one.
 fn warning(lines: &str) -> Option<String> {
-    let note = parsed(lines).warning?;
-    Some(format!("{}: {}", note.line, note.reason))
+    parsed(lines).warning.map(|note| note.to_string())
 }
 
 #[test]

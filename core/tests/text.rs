@@ -2,18 +2,12 @@
 
 mod common;
 
-use common::parse;
+use common::{parse, refused};
 use rizhavaan_core::day::Day;
 use rizhavaan_core::packed::edge::Edge;
 use rizhavaan_core::packed::plan::Operator;
 
 const QUERY: &str = "[query]\nvertices 4\n0 -1-> 1\n1 -1-> 2\n2 -1-> 3\n";
-
-/// The line and reason that a text is refused with.
-fn refused(text: &str) -> String {
-    let note = parse(text.as_bytes()).expect_err(text);
-    format!("{}: {}", note.line, note.reason)
-}
 
 /// The warning that a text is accepted with.
 fn warned(text: &str) -> String {

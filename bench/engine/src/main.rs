@@ -8,6 +8,7 @@
 
 mod cases;
 mod chart;
+mod clock;
 mod counts;
 mod databases;
 mod drawn;

@@ -1,26 +1,11 @@
 //! Runs of the engine, timed, in scratch and list of about the words that they need.
+use crate::clock;
 use crate::picker::{pack, Operator};
 use rizhavaan::{check_plan, run, Cache, Record, Refusal, Store};
 
-#[repr(C)]
-struct Timespec {
-    seconds: i64,
-    nanoseconds: i64,
-}
-
-extern "C" {
-    fn clock_gettime(clock: i32, time: *mut Timespec) -> i32;
-}
-
-const PROCESS_TIME: i32 = 2;
-
 /// The processor time of this process so far, in nanoseconds.
 pub fn now() -> f64 {
-    let mut time = Timespec { seconds: 0, nanoseconds: 0 };
-    // SAFETY: the pointer is to a local laid out as C's struct timespec.
-    let failed = unsafe { clock_gettime(PROCESS_TIME, &mut time) };
-    assert_eq!(failed, 0, "the machine has a clock of processor time");
-    time.seconds as f64 * 1e9 + time.nanoseconds as f64
+    clock::now() * 1e9
 }
 
 /// A graph's store, and buffers for its runs.

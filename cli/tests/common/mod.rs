@@ -39,6 +39,31 @@ pub fn patterns(out: &str) -> Vec<Value> {
     several.unwrap_or_else(|| vec![value])
 }
 
+/// The patterns of a run's JSON.
+pub fn found(dir: &Path, arguments: &[&str]) -> Vec<Value> {
+    patterns(&run(dir, &[arguments, &["--json"]].concat()).1)
+}
+
+/// Every pattern of the examples by a plan of a kind, beside itself by a drawn one: the same rows. Told of each example that is refused.
+pub fn beside_drawn(kind: &str, mut refused: impl FnMut(i32, &str)) -> Vec<(Value, Value)> {
+    let mut both = Vec::new();
+    for example in examples() {
+        let (status, out, err) = run(&example, &["find", ".", "--plan", kind, "--json"]);
+        if status > 1 {
+            refused(status, &err);
+            continue;
+        }
+        let (asked, drawn) = (patterns(&out), found(&example, &["find", ".", "--plan", "drawn"]));
+        assert_eq!(asked.len(), drawn.len(), "{example:?}");
+        for (asked, drawn) in asked.into_iter().zip(drawn) {
+            assert_eq!(rows(&asked), rows(&drawn), "{example:?}");
+            assert_eq!((&asked["planFrom"], &drawn["planFrom"]), (&kind.into(), &"drawn".into()));
+            both.push((asked, drawn));
+        }
+    }
+    both
+}
+
 /// The rows of a pattern in an order of their own: plans list the same ones in different orders.
 pub fn rows(found: &Value) -> Vec<String> {
     let mut rows: Vec<String> = found["rows"].as_array().unwrap().iter().map(Value::to_string).collect();

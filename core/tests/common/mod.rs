@@ -12,6 +12,17 @@ pub struct Note {
     pub reason: String,
 }
 
+impl std::fmt::Display for Note {
+    fn fmt(&self, f: &mut std::fmt::Formatter) -> std::fmt::Result {
+        write!(f, "{}: {}", self.line, self.reason)
+    }
+}
+
+/// The line and reason that a text is refused with.
+pub fn refused(text: &str) -> String {
+    parse(text.as_bytes()).expect_err(text).to_string()
+}
+
 /// A text that was read, packed with its only pattern, and the first warning.
 #[derive(Debug)]
 pub struct Parsed {
