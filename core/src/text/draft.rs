@@ -152,6 +152,7 @@ impl<'t> Draft<'t> {
         self.faults.push(match near {
             Some(near) => fault.help(format!("did you mean '{near}'?")),
             None if few.is_empty() || few.len() > FEW_NAMES => fault,
+            None if few.len() == 1 => fault.help(format!("there is only {}", few[0])),
             None => fault.help(format!("write one of {}", few.join(", "))),
         });
     }
