@@ -68,6 +68,8 @@ pub struct Estimate {
 /// the estimate.
 const LARGE: usize = 6;
 const LARGE_MARGIN: f64 = 4.0;
+/// Sample rows for that.
+const FRESH_SIZE: usize = 128;
 
 /// A picked plan.
 #[derive(Clone, Debug, PartialEq)]
@@ -106,7 +108,7 @@ pub fn pick(words: &[u32], statistics: &Statistics, query: &[u8], lent: u64) -> 
         let joined = joins::best_join(&mut search, &mut |plan| bounds.need(plan) <= lent);
         let plan = joined.unwrap_or(ordering).plan;
         let large = query.vertices() >= LARGE && plan != drawn && bounds.need(&drawn) <= lent;
-        if large && !clearly_faster(&mut Samples::new(store, statistics, &query, UNSEEN_SIZE), &plan, &drawn) {
+        if large && !clearly_faster(&mut Samples::new(store, statistics, &query, FRESH_SIZE), &plan, &drawn) {
             return Some(described(&mut samples, &drawn));
         }
         return Some(described(&mut samples, &plan));
