@@ -195,7 +195,8 @@ pub fn run(names: &[&str], seed: u64, count: usize, graph: fn(&str) -> Vec<u8>) 
     }
     let numbers: Vec<String> = coefficients.iter().map(|each| format!("{each:.3}")).collect();
     println!(
-        "/// What each part takes, in nanoseconds, in the order of `ALL`. `bench/picker/run fit` measures the engine and writes this file.\n\
+        "/// What each part takes, in nanoseconds, in the order of `ALL`. `bench/picker/run fit` measures the engine\n\
+         /// and writes this file.\n\
          const NANOSECONDS: [f64; PARTS] = [\n    {},\n    {},\n];",
         numbers[..PARTS / 2].join(", "),
         numbers[PARTS / 2..].join(", ")

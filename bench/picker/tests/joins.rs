@@ -9,20 +9,19 @@ use picker_bench::picker::{pick, Operator, Picked, Statistics, MAX_WORDS};
 use picker_bench::random::Random;
 use rizhavaan::{Buffers, Store};
 
-const HUBS: usize = 20;
 const LEAVES: usize = 50_000;
 
-/// Leaves on hubs; one in fifty has label 2, one in fifty label 3.
-fn hubs() -> Store {
+/// Leaves on so many hubs; one in so many has label 2, as many label 3.
+fn hubs(hubs: usize, rare: usize) -> Store {
     let mut random = Random::new(9);
-    let label = |v: usize| match v % 50 {
-        _ if v < HUBS => 4,
+    let label = |v: usize| match v % rare {
+        _ if v < hubs => 4,
         0 => 2,
         1 => 3,
         _ => 1,
     };
-    let n = HUBS + LEAVES;
-    let edges = (HUBS..n).map(|leaf| (leaf as u16, 1, random.below(HUBS) as u16)).collect();
+    let n = hubs + LEAVES;
+    let edges = (hubs..n).map(|leaf| (leaf as u16, 1, random.below(hubs) as u16)).collect();
     let graph = Graph { name: String::new(), labels: (0..n).map(label).collect(), days: vec![0; n], edges };
     Store::load(&graph.file()).expect("an accepted graph")
 }
@@ -41,7 +40,7 @@ fn has_join(picked: &Picked) -> bool {
 
 #[test]
 fn rare_leaves_on_hubs_are_joined() {
-    let (store, query) = (hubs(), two_leaves());
+    let (store, query) = (hubs(4, 200), two_leaves());
     let statistics = Statistics::of(store.words()).expect("a store");
     let pick = |lent| pick(store.words(), &statistics, &packed(&query), lent).expect("a plan");
     let joined = pick(MAX_WORDS);
@@ -52,4 +51,18 @@ fn rare_leaves_on_hubs_are_joined() {
     // 50,000 build rows may come by the bound, of two words each.
     assert!(!has_join(&pick(90_000)), "the bound passes what is lent");
     assert!(joined.scratch >= joined.need as u64 && joined.list >= 3 * rows as u64);
+}
+
+/// The same pattern on other hubs: the lists of joined plans are the drawn ones.
+#[test]
+fn joined_plans_list_what_drawn_plans_list() {
+    let mut joins = 0;
+    for (count, rare) in [(1, 400), (2, 200), (3, 300), (4, 250), (6, 200), (8, 150), (20, 50)] {
+        let (store, query) = (hubs(count, rare), two_leaves());
+        let statistics = Statistics::of(store.words()).expect("a store");
+        let picked = pick(store.words(), &statistics, &packed(&query), MAX_WORDS).expect("a plan");
+        assert!(same_list(&store, &query, &picked, &mut Buffers::new()) > 0);
+        joins += usize::from(has_join(&picked));
+    }
+    assert!(joins >= 4, "{joins} plans have a join");
 }

@@ -4,7 +4,6 @@ mod common;
 use common::{graph, picked, query, same_list, Shape};
 use picker_bench::patterns::pattern;
 use picker_bench::picker::store::Store as Parts;
-use picker_bench::picker::Operator;
 use picker_bench::random::Random;
 use rizhavaan::{Buffers, Store};
 
@@ -13,7 +12,7 @@ use rizhavaan::{Buffers, Store};
 fn picked_plans_list_what_drawn_plans_list() {
     let mut random = Random::new(38);
     let mut buffers = Buffers::new();
-    let (mut rows, mut with_rows, mut with_a_join) = (0, 0, 0);
+    let (mut rows, mut with_rows) = (0, 0);
     for _ in 0..4_000 {
         let vertices = random.one_of(&[0, 1, 2, 3, 5, 8, 13, 20, 30, 40]);
         let shape = Shape {
@@ -34,10 +33,8 @@ fn picked_plans_list_what_drawn_plans_list() {
             let found = same_list(&store, &query, &picked, &mut buffers);
             rows += found;
             with_rows += usize::from(found > 0);
-            with_a_join +=
-                usize::from(picked.operators.iter().any(|estimate| estimate.operator == Operator::Join));
         }
     }
-    println!("{rows} rows, {with_rows} queries with rows, {with_a_join} plans with a join");
-    assert!(with_rows > 4_000 && with_a_join > 10, "{with_rows} queries have rows, {with_a_join} plans a join");
+    println!("{rows} rows, {with_rows} queries with rows");
+    assert!(with_rows > 4_000, "{with_rows} queries have rows");
 }

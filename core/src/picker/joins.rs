@@ -41,6 +41,10 @@ pub fn best_join(search: &mut Search, fits: &mut dyn FnMut(&[Operator]) -> bool)
                 continue;
             }
             search.samples.reach(build, build | probe);
+            // Of a result that no sample row reached nothing is known.
+            if [build, probe, build | probe].iter().any(|&set| search.samples.unseen(set)) {
+                continue;
+            }
             let stage = search.samples.joined(&built.stage, &probed.stage);
             if stage.time >= limit {
                 continue;

@@ -64,6 +64,13 @@ pub struct Estimate {
     pub time: f64,
 }
 
+/// From so many vertices on a plan is taken only where the drawn one takes more than so many times as long by
+/// the estimate.
+const LARGE: usize = 6;
+const LARGE_MARGIN: f64 = 4.0;
+/// Sample rows for that.
+const FRESH_SIZE: usize = 128;
+
 /// A picked plan.
 #[derive(Clone, Debug, PartialEq)]
 pub struct Picked {
@@ -100,6 +107,10 @@ pub fn pick(words: &[u32], statistics: &Statistics, query: &[u8], lent: u64) -> 
         search.best = ordering.stage.time;
         let joined = joins::best_join(&mut search, &mut |plan| bounds.need(plan) <= lent);
         let plan = joined.unwrap_or(ordering).plan;
+        let large = query.vertices() >= LARGE && plan != drawn && bounds.need(&drawn) <= lent;
+        if large && !clearly_faster(&mut Samples::new(store, statistics, &query, FRESH_SIZE), &plan, &drawn) {
+            return Some(described(&mut samples, &drawn));
+        }
         return Some(described(&mut samples, &plan));
     }
 }
@@ -110,6 +121,14 @@ pub fn estimate(words: &[u32], statistics: &Statistics, query: &[u8], plan: &[u8
     let plan = unpack(plan)?;
     let mut samples = Samples::new(Store::of(words)?, statistics, &query, UNSEEN_SIZE);
     Some(described(&mut samples, &plan))
+}
+
+/// Whether a plan is clearly faster than the drawn one by samples of their own. Those of the search led to the
+/// plan that looks best in them, and in a long plan a hub that they missed may hide thousands of times the
+/// rows.
+fn clearly_faster(samples: &mut Samples, plan: &[Operator], drawn: &[Operator]) -> bool {
+    let mut time = |plan: &[Operator]| samples.stages(plan).last().map_or(f64::MAX, |stage| stage.time);
+    LARGE_MARGIN * time(plan) < time(drawn)
 }
 
 /// Whether a proper part of an ordering has no sample row, although it may have rows.
