@@ -158,13 +158,9 @@ fn joined() -> Vec<Worked> {
     ]
 }
 
-fn worked() -> Vec<Worked> {
-    [scanned(), extended(), kept_sets(), joined()].into_iter().flatten().collect()
-}
-
 #[test]
 fn worked_cases() {
-    hold(&worked());
+    [scanned(), extended(), kept_sets(), joined()].iter().for_each(|cases| hold(cases));
 }
 
 /// Runs of one plan over a graph and a query and over their twins, in buffers of the same lengths; none where there are too many rows.

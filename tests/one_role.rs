@@ -206,11 +206,7 @@ fn longest_sets() -> Vec<Worked> {
     ]
 }
 
-fn worked() -> Vec<Worked> {
-    [struck_by_scans(), struck_by_extends(), struck_by_joins(), longest_sets()].into_iter().flatten().collect()
-}
-
 #[test]
 fn worked_cases() {
-    hold(&worked());
+    [struck_by_scans(), struck_by_extends(), struck_by_joins(), longest_sets()].iter().for_each(|cases| hold(cases));
 }

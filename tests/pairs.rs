@@ -145,13 +145,9 @@ fn joined() -> Vec<Worked> {
     ]
 }
 
-fn worked() -> Vec<Worked> {
-    [scanned(), extended(), kept_sets(), joined()].into_iter().flatten().collect()
-}
-
 #[test]
 fn worked_cases() {
-    hold(&worked());
+    [scanned(), extended(), kept_sets(), joined()].iter().for_each(|cases| hold(cases));
 }
 
 /// Runs of a query by one plan with each of two sets of pairs in place of its own, in buffers for the rows without any. None where there

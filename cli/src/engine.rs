@@ -50,7 +50,8 @@ impl Engine for Library {
 
     fn run(&self, store: &[u32], query: &[u8], plan: &[u8], lent: Lent) -> Result<Answer, Refusal> {
         let mut records = vec![library::Record::default(); lent.records.len()];
-        let ran = library::run(store, query, plan, Cache::On, lent.scratch, lent.list, &mut records).map_err(refused)?;
+        let ran =
+            library::run(store, query, plan, Cache::On, lent.scratch, lent.list, &mut records).map_err(refused)?;
         for (record, made) in lent.records.iter_mut().zip(records) {
             *record = Record { rows: made.rows, cost: made.cost };
         }

@@ -83,20 +83,21 @@ fn a_little_bound_is_set_aside_at_once() {
     assert_eq!((found, &runs[..]), (places, &[(FIRST, 0)][..]));
 }
 
-/// A large bound is not: a run that does not fit is counted, and made again in a list of just the words that it takes. Room for rows is for a
-/// set of the longest list too, where the plan has an extend.
+/// A large bound is not: a run that does not fit is counted, and made again in just the words that it takes. Room for rows is for a set of the
+/// longest list too, where the plan has an extend.
 #[test]
 fn a_large_bound_is_not() {
     let (found, runs) = find(&dense(90, PATH), &DRAWN);
     let words = 3 * 90 * 89 * 88;
     assert_eq!(3 * found, words);
     let (set, need) = (89, 2 + 3 + 89);
-    assert_eq!(runs, [(2 * FIRST + set, FIRST), (2 * FIRST + set, 0), (need + words + set, words)]);
+    // The rows are too many to have room besides.
+    assert_eq!(runs, [(2 * FIRST + set, FIRST), (2 * FIRST + set, 0), (need, words)]);
 }
 
-/// Where the bounds are large and a picked plan's list is thought to be little, the scratch has room for that list.
+/// Where the bounds are large, a list that a picked plan is thought to have, or that was counted, has room in the scratch.
 #[test]
-fn an_estimated_list_has_room() {
+fn an_estimated_or_counted_list_has_room() {
     let mut text = String::from("[graph]\nvertices 2001\n");
     for i in 0..2_000 {
         text += &format!("2000 -1-> {i}\n{i} -1-> 2000\n{i} -1-> {}\n", (i + 1) % 2_000);
@@ -112,6 +113,10 @@ fn an_estimated_list_has_room() {
     let (scratch, list) = (bounds.scratch_words as usize, picked.list as usize);
     assert!(found == 6_000 && list >= 18_000 && bounds.list_words > 1 << 20, "{found}, {list}, {bounds:?}");
     assert_eq!(runs, [(scratch.max(FIRST) + list + 2_000, list)]);
+    let (_, runs) = find(&text, &DRAWN);
+    assert_eq!(runs[..2], [(2 * FIRST + 2_000, FIRST), (2 * FIRST + 2_000, 0)]);
+    let (room, need) = (18_000 + 2_000, 2..=scratch);
+    assert!(runs.len() == 3 && need.contains(&(runs[2].0 - room)) && runs[2].1 == 18_000, "{runs:?}");
 }
 
 /// A join's scratch, whose build side is held whole, is set aside too, though its list is long.
@@ -122,8 +127,7 @@ fn the_scratch_of_a_join() {
     assert_eq!(found, 120 * 119 * 118);
     assert!(runs[0].0 > 3 * FIRST && runs[0].1 == FIRST, "{runs:?}");
     assert_eq!(runs.len(), 3, "the scratch fits at once: {runs:?}");
-    // So long a list has no room.
-    assert!(runs[2].0 < runs[2].1, "{runs:?}");
+
 }
 
 /// Where little memory is allowed, no more than a part of it is set aside at first, and never more than all of it.

@@ -363,5 +363,5 @@ fn kinds_are_listed_where_none_is_near() {
     assert!(err.contains("did you mean 'motor'?"), "{err}");
     fs::write(dir.join("hang.txt"), "[graph]\np: pin\nm: pin\n[query]\na: pin\nb: pin\na -carries-> b\n").unwrap();
     let (_, _, err) = run(&dir, &["find", "hang.txt"]);
-    assert!(err.contains("no connection of kind 'carries' is in the hang") && err.contains("there is only 'any'"), "{err}");
+    assert!(err.contains("'carries' is in the hang") && err.contains("there is only 'any'"), "{err}");
 }

@@ -148,15 +148,16 @@ impl Default for First {
     }
 }
 
-/// A bound of at most so many words is set aside at once, and an estimated list of so many has room in the scratch.
+/// A bound of at most so many words is set aside at once.
 const LITTLE: u64 = 1 << 20;
 
-/// A counted list of more words has no room in the scratch: its rows are found twice rather than kept twice.
-const LONG: usize = 1 << 22;
-
 /// Words of scratch besides its need in which a run finds a list of so many words once and not twice: its first pass keeps the rows beside as
-/// many words as the sets of its extends could have, each no more than the longest list of the store.
+/// many words as the sets of its extends could have, each no more than the longest list of the store. For long lists fresh memory takes longer
+/// than that.
 fn room(store: &[u32], width: usize, list: usize) -> usize {
+    if list as u64 > LITTLE {
+        return 0;
+    }
     list + width.saturating_sub(2) * Store::of(store).map_or(0, |store| store.longest_list())
 }
 
@@ -187,8 +188,7 @@ pub fn run_growing(
 ) -> Result<Ran, NoRun> {
     let first = first.within(memory);
     let left = (memory / 4).saturating_sub(first.scratch + first.list);
-    let room = if first.list as u64 <= LITTLE { room(store, width, first.list).min(left) } else { 0 };
-    let mut scratch = vec![0; first.scratch + room];
+    let mut scratch = vec![0; first.scratch + room(store, width, first.list).min(left)];
     let mut list = vec![0; first.list];
     let mut records = vec![Record::default(); MAX_OPERATORS];
     loop {
@@ -237,9 +237,8 @@ fn fit(
         Some(left) => left,
         None => return Err(NoRun::Memory { scratch: need, list: words, counted: true }),
     };
-    let room = if words <= LONG { room(store, width, words) } else { 0 };
     (*scratch, *list) = (Vec::new(), Vec::new());
-    (*scratch, *list) = (vec![0; (need + room).min(left)], vec![0; words]);
+    (*scratch, *list) = (vec![0; (need + room(store, width, words)).min(left)], vec![0; words]);
     Ok(())
 }
 
