@@ -7,12 +7,15 @@ use picker_bench::patterns::{orderings, packed, pattern};
 use picker_bench::picker::query::{Operator, Query};
 use picker_bench::picker::store::Store as Parts;
 use picker_bench::picker::time::{Part, Work, ALL, PARTS};
+use picker_bench::picker::{estimate, pack, Statistics};
 use picker_bench::random::Random;
 use rizhavaan::Store;
 
 /// Rows of an operator at most, and nanoseconds besides the store check at least: shorter runs are noise.
 const MOST_ROWS: usize = 400_000;
 const LEAST_TIME: f64 = 1e6;
+/// Nanoseconds: plans that take longer by the estimate are passed by.
+const LONG: f64 = 2e8;
 /// Plans of a pattern at most.
 const PLANS: usize = 5;
 
@@ -74,6 +77,7 @@ fn runs_of(name: &str, file: &[u8], random: &mut Random, count: usize, runs: &mu
     let store = Store::load(file).expect("an accepted graph");
     let words = store.words().to_vec();
     let parts = Parts::of(&words).expect("a store");
+    let statistics = Statistics::of(&words).expect("a store");
     let mut engine = Engine::new(store, 1 << 24);
     let check = Check::new(&mut engine);
     let (mut patterns, before) = (0, runs.len());
@@ -98,6 +102,9 @@ fn runs_of(name: &str, file: &[u8], random: &mut Random, count: usize, runs: &mu
             };
             let join = if sides.len() == 2 { &[Operator::Join][..] } else { &[] };
             let plan = [&sides.concat()[..], join].concat();
+            if estimate(&words, &statistics, &file, &pack(&plan)).map_or(true, |thought| thought.time > LONG) {
+                continue;
+            }
             let fitted = match engine.fit(&file, &edges, &plan, 4_096, 4_096) {
                 Some(fitted) => fitted,
                 None => continue,

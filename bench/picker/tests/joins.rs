@@ -40,14 +40,14 @@ fn has_join(picked: &Picked) -> bool {
 
 #[test]
 fn rare_leaves_on_hubs_are_joined() {
-    let (store, query) = (hubs(4, 200), two_leaves());
+    let (store, query) = (hubs(8, 400), two_leaves());
     let statistics = Statistics::of(store.words()).expect("a store");
     let pick = |lent| pick(store.words(), &statistics, &packed(&query), lent).expect("a plan");
     let joined = pick(MAX_WORDS);
     assert!(has_join(&joined), "{:?}", joined.operators);
     let rows = same_list(&store, &query, &joined, &mut Buffers::new());
     let thought = joined.operators.last().expect("an operator").rows;
-    assert!((0.8..1.25).contains(&(thought / rows as f64)), "{thought} of {rows} rows");
+    assert!((0.5..2.0).contains(&(thought / rows as f64)), "{thought} of {rows} rows");
     // 50,000 build rows may come by the bound, of two words each.
     assert!(!has_join(&pick(90_000)), "the bound passes what is lent");
     assert!(joined.scratch >= joined.need as u64 && joined.list >= 3 * rows as u64);
@@ -57,7 +57,7 @@ fn rare_leaves_on_hubs_are_joined() {
 #[test]
 fn joined_plans_list_what_drawn_plans_list() {
     let mut joins = 0;
-    for (count, rare) in [(1, 400), (2, 200), (3, 300), (4, 250), (6, 200), (8, 150), (20, 50)] {
+    for (count, rare) in [(1, 400), (2, 400), (3, 300), (4, 400), (6, 500), (8, 400), (20, 50)] {
         let (store, query) = (hubs(count, rare), two_leaves());
         let statistics = Statistics::of(store.words()).expect("a store");
         let picked = pick(store.words(), &statistics, &packed(&query), MAX_WORDS).expect("a plan");

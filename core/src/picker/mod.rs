@@ -67,7 +67,7 @@ pub struct Estimate {
 /// From so many vertices on a plan is taken only where the drawn one takes more than so many times as long by
 /// the estimate.
 const LARGE: usize = 6;
-const LARGE_MARGIN: f64 = 4.0;
+const LARGE_MARGIN: f64 = 8.0;
 /// Sample rows for that.
 const FRESH_SIZE: usize = 128;
 

@@ -110,7 +110,7 @@ impl Samples<'_> {
     }
 
     /// The work of a scan: every vertex is tested, and from each source that fits the portions of all edges
-    /// between the ends are intersected.
+    /// between the ends are intersected, unless its list lacks the label.
     fn scan_work(&self, edge: &Edge) -> Work {
         let label = self.query.filters[edge.from].label;
         let fitting = self.fitting(edge.from);
@@ -124,11 +124,12 @@ impl Samples<'_> {
             self.put_source_work(edge, &extending, entries, &mut work);
         }
         work.put(Part::Vertex, self.store.vertices() as f64);
-        work.put(Part::Row, fitting);
-        work.put(Part::Descriptor, fitting * extending.descriptors.len() as f64);
+        let looked = fitting.min(entries);
+        work.put(Part::Passed, fitting - looked);
+        work.put(Part::Row, looked);
+        work.put(Part::Descriptor, looked * extending.descriptors.len() as f64);
         let rows = self.rows(edge.ends());
         work.put(Part::Found, rows);
-        work.put(Part::Output, rows);
         work.put(Part::Word, 2.0 * rows);
         work
     }

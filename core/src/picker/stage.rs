@@ -59,7 +59,6 @@ impl Samples<'_> {
         let took = computed * each
             + time_of(Part::Cached, cached)
             + time_of(Part::Kept, cached * extension.set)
-            + time_of(Part::Output, out)
             + time_of(Part::Word, out * (stage.width() + 1.0))
             + if is_early(*set, v) { time_of(Part::Early, out) } else { 0.0 };
         let own = |i: usize| match used & !prefixes.all()[i].set {

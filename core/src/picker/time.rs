@@ -7,7 +7,9 @@ use super::query::Set;
 pub enum Part {
     /// A vertex that a scan tests.
     Vertex,
-    /// A row whose new vertices are computed; a scan has one for each source that fits.
+    /// A source that fits and is passed over, since its list has no entry of the scanned label.
+    Passed,
+    /// A row whose new vertices are computed; a scan has one for each source that fits and is not passed over.
     Row,
     /// A descriptor of such a row, whose portion is found.
     Descriptor,
@@ -29,8 +31,7 @@ pub enum Part {
     Cached,
     /// A vertex of the set kept for such a row, which is tested anew.
     Kept,
-    /// A row of an operator's result, and a word of it.
-    Output,
+    /// A word of an operator's result.
     Word,
     /// A row of an extend whose new vertex stands in its first or second column.
     Early,
@@ -50,6 +51,7 @@ pub const PARTS: usize = 19;
 /// Every part, in the order of a `Work`'s numbers.
 pub const ALL: [Part; PARTS] = [
     Part::Vertex,
+    Part::Passed,
     Part::Row,
     Part::Descriptor,
     Part::Entry,
@@ -61,7 +63,6 @@ pub const ALL: [Part; PARTS] = [
     Part::Found,
     Part::Cached,
     Part::Kept,
-    Part::Output,
     Part::Word,
     Part::Early,
     Part::Build,
