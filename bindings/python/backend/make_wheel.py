@@ -3,6 +3,7 @@ of PEP 517, so that pip can ask for it without a network and without other packa
 
 import base64
 import hashlib
+import os
 import pathlib
 import re
 import subprocess
@@ -46,7 +47,8 @@ def library():
     script = PACKAGE / "build"
     if not (TOP / "core").is_dir():
         raise SystemExit(f"{PACKAGE} is built within its repository, which is not here; install a wheel instead")
-    is_built = (TOP / "target" / "staticlib" / "librizhavaan.a").is_file()
+    folder = pathlib.Path(os.environ.get("RIZHAVAAN_LIB_DIR", TOP / "target" / "staticlib"))
+    is_built = (folder / "librizhavaan.a").is_file()
     told = subprocess.run([str(script), "--library", *(["--built"] if is_built else [])], cwd=TOP, stdout=sys.stderr)
     if told.returncode:
         raise SystemExit(f"{script} --library ended with {told.returncode}; what it said stands above")
