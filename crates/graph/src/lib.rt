@@ -10,7 +10,7 @@ ghost use Rattle.graph.specs.Inner.Side.{side_at};
 // The counts of a graph, and where its words lie in a store: N, M, a label and then a day a vertex, and two
 // sides. A side is N + 1 offsets followed by M entries; the forward side has the targets of each source, the
 // backward side the sources of each target.
-#[derive(Drop)]
+#[derive(Clone, Copy)]
 pub struct Graph {
     // N.
     pub vertices: usize,

@@ -11,7 +11,7 @@ use judge_matcher::ticks::*;
 use run::RunAnswer;
 
 // What the runs of a plan are lent, and what the first one answered.
-#[derive(Drop)]
+#[derive(Clone, Copy)]
 struct Ran {
     with: Lent,
     answer: RunAnswer,

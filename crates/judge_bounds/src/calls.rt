@@ -9,7 +9,7 @@ use judge_matcher::tally::{Tally, count, judge, judge_refusal};
 use plan_bounds::BoundsAnswer;
 
 // The words of the store and the bytes of the two files that are lent.
-#[derive(Drop)]
+#[derive(Clone, Copy)]
 pub struct Lent {
     pub store: usize,
     pub query: usize,

@@ -141,7 +141,7 @@ fn scan(q: &Query, m: &Measures, i: usize, p: &mut Pile) {
 
 // The longest portions of the query edges between a vertex and a set: whether there are any, the least, and
 // the sum.
-#[derive(Drop)]
+#[derive(Clone, Copy)]
 struct Longest {
     any: bool,
     least: usize,
@@ -236,7 +236,7 @@ fn step(q: &Query, m: &Measures, plan: &[u8], at: usize, p: &mut Pile) -> usize 
 }
 
 // The four numbers of an accepted plan: list words, scratch words, cost and the largest row bound.
-#[derive(Drop)]
+#[derive(Clone, Copy)]
 pub struct Bounds {
     pub list_words: u64,
     pub scratch_words: u64,

@@ -18,7 +18,7 @@ const OLD: u64 = 16045690984503098046;
 
 // What Find answers and leaves, but for the words and bytes: the plan's length, the answer, and the records
 // of so many operators.
-#[derive(Drop)]
+#[derive(Clone, Copy)]
 struct Found {
     bytes: u64,
     answer: RunAnswer,

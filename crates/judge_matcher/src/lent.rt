@@ -25,7 +25,7 @@ pub type Files = [u8; FILE_BYTES];
 
 // What a run is lent: the words of the store, the bytes of the two files, the cache setting, the words of
 // scratch and list, and the records. A row has `width` words.
-#[derive(Drop)]
+#[derive(Clone, Copy)]
 pub struct Lent {
     pub store: usize,
     pub query: usize,

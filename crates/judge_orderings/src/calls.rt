@@ -17,7 +17,7 @@ const MAX_SCRATCH: usize = 256;
 type Words = [u32; MAX_WORDS];
 
 // The words of the store, the bytes of the query, and the words of scratch and list that are lent.
-#[derive(Drop)]
+#[derive(Clone, Copy)]
 pub struct Lent {
     pub store: usize,
     pub query: usize,

@@ -12,7 +12,7 @@ pub type Words = [u32; MAX_WORDS];
 pub type Cursors = [u32; MAX_VERTICES];
 
 // The counts of a store, and where its forward and its backward offsets begin.
-#[derive(Drop)]
+#[derive(Clone, Copy)]
 pub struct Layout {
     pub vertices: usize,
     pub edges: usize,

@@ -7,7 +7,7 @@ use judge_matcher::slices::word;
 
 // How a graph is drawn: its vertices; its labels, 1 and so many further apart; how far the targets of a
 // vertex are apart at most; and whether vertex 7 leads to nearly all, and nearly all to vertex 0.
-#[derive(Drop)]
+#[derive(Clone, Copy)]
 pub struct Shape {
     pub vertices: usize,
     pub labels: usize,

@@ -8,7 +8,7 @@ ghost use Rattle.load.specs.Answer.{load_answer};
 mod fill;
 
 // What Load answers: a refusal with zeros, or 0 with the counts.
-#[derive(Drop)]
+#[derive(Clone, Copy)]
 pub struct Loaded {
     // 0 where the graph is in the store.
     pub refusal: u32,

@@ -10,7 +10,7 @@ ghost use Rattle.plan.specs.Plan.{max_operators, ends};
 
 use query::{Edge, set};
 
-#[derive(Drop)]
+#[derive(Clone, Copy)]
 pub enum Operator {
     Scan(usize),
     Extend(usize),
@@ -18,7 +18,7 @@ pub enum Operator {
 }
 
 // A plan in postfix order; every number past the last operator is 0.
-#[derive(Drop)]
+#[derive(Clone, Copy)]
 pub struct Plan {
     // How many there are.
     pub operators: usize,

@@ -11,7 +11,7 @@ ghost use Rattle.plan_bounds.specs.Answer.{bounds_answer};
 
 // What Bounds answers: a refusal with zeros, or 0 with the four numbers, each one too large for 64 bits as
 // the largest of them.
-#[derive(Drop)]
+#[derive(Clone, Copy)]
 pub struct BoundsAnswer {
     // 0 where the plan and the store are accepted.
     pub refusal: u32,

@@ -19,7 +19,7 @@ use query::{Query, set};
 use rows::column;
 
 // What bounds a result.
-#[derive(Drop)]
+#[derive(Clone, Copy)]
 pub struct Bounded {
     // The query vertices that it covers.
     pub set: u32,
@@ -30,7 +30,7 @@ pub struct Bounded {
 }
 
 // The bounds of the results in the pile.
-#[derive(Drop)]
+#[derive(Clone, Copy)]
 pub struct Pile {
     // How many there are; the top one is at depth - 1.
     pub depth: usize,

@@ -17,7 +17,7 @@ use refusals::Refusal;
 pub mod set;
 
 // An edge of a query.
-#[derive(Drop)]
+#[derive(Clone, Copy)]
 pub struct Edge {
     // The query vertex that it starts from.
     pub source: usize,
@@ -28,7 +28,7 @@ pub struct Edge {
 }
 
 // What a query vertex asks of a data vertex.
-#[derive(Drop)]
+#[derive(Clone, Copy)]
 pub struct Filter {
     // Its label, 0 for any.
     pub label: u32,
@@ -41,7 +41,7 @@ pub struct Filter {
 }
 
 // A query, field by field; every number past the last of a kind is 0.
-#[derive(Drop)]
+#[derive(Clone, Copy)]
 pub struct Query {
     // n, how many vertices it has.
     pub vertices: usize,

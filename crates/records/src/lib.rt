@@ -8,7 +8,7 @@ use plan::Plan;
 use run_spec::{Record, RunAnswer};
 
 // What a run answers, and what it is to store.
-#[derive(Drop)]
+#[derive(Clone, Copy)]
 pub struct Recorded {
     // The answer.
     pub answer: RunAnswer,
