@@ -1,6 +1,8 @@
 // The change file, what it is and how it is read: a count (20 bits), then for each change a bit (1 add, 0
 // take away), a source (16), a label (8) and a target (16); and refusal 27 (document 02, request 8). What
 // changes do to a graph stands in `changes`.
+#![tactic(auto)]
+
 ghost use Rattle.std.specs.Prelude.{◌≡◌, not, suc, ◌+◌, ◌*◌, ◌≤◌, ◌<◌, length};
 ghost use Rattle.lists.specs.Lists.{bit, range, all};
 ghost use Rattle.lists.specs.Refusal.{refuse};

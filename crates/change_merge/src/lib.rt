@@ -2,6 +2,8 @@
 // (document 02, request 8). The changes come by their keys, ascending: in a slice, or where that is empty
 // as the file has them, which is the order of the forward side. Refusals and the whole store are
 // `changes`; a backward side with too many changes is made by `store_transpose`.
+#![tactic(auto)]
+
 pub mod backward;
 
 ghost use Rattle.std.specs.Prelude.{◌≡◌, ◌++◌, ℕ, suc, ◌+◌, ◌-◌, ◌/◌, ◌≤◌, ◌<◌, length, get_or, drop};

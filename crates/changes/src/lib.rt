@@ -1,6 +1,8 @@
 // The operation Apply changes: from an old store and a change file, the store of the edited graph, and
 // refusals 27 to 29 (document 02, request 8). `specs/` has the edited graph, the answer, and what is
 // claimed of both; one side is merged in `change_merge`, the file is read in `change_file`.
+#![tactic(auto)]
+
 ghost use Rattle.std.specs.Prelude.{◌≡◌, suc, ◌+◌, ◌*◌, ◌≤◌, ◌<◌, length};
 ghost use Rattle.lists.specs.Lists.{range, count_if};
 ghost use Rattle.graph.specs.Graph.{max_graph_edges};

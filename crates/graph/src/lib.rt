@@ -2,6 +2,8 @@
 // document 02, request 6), with refusals 1 to 5 and 19 as definitions in `specs/`, and the limits and
 // places of a store as constants here. No file is read here: that is `graph_file`; `load` writes a store,
 // `adjacency` reads it.
+#![tactic(auto)]
+
 ghost use Rattle.std.specs.Prelude.{◌≡◌, ◌+◌, ◌≤◌, length, get_or};
 ghost use Rattle.graph.specs.Graph.{forward, backward};
 ghost use Rattle.graph.specs.Store.{used_words};

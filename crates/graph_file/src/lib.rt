@@ -1,6 +1,8 @@
 // The graph file read: N (16 bits), M (20), N vertices of label (16) and day (16), then M edges of source
 // (16), label (8), target (16); and its faults, 1 to 5 (document 01, 'The three packed files'). What they
 // mean stands in `graph`; the store is written by `load`.
+#![tactic(auto)]
+
 ghost use Rattle.std.specs.Prelude.{◌≡◌, suc, ◌+◌, ◌*◌, ◌≤◌, ◌<◌, length};
 ghost use Rattle.graph.specs.Graph.{max_graph_vertices, max_graph_edges, max_edge_label, entry_end, forward, entry};
 ghost use Rattle.graph.specs.Graph.{key};

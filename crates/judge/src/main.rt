@@ -2,6 +2,8 @@
 // compared with a matcher that tries assignments (document 01, 'Agreement' and the cases that are not
 // starred). It shares no code with the engine. It prints how often each kind of result was compared and
 // how often it differed.
+#![tactic(auto)]
+
 mod compare;
 mod counts;
 mod others;

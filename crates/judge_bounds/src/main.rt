@@ -1,6 +1,8 @@
 // The judge of Bounds: random graphs, queries and plans, compared with a model that follows the rules over
 // the drawn edges in numbers of 256 bits. It shares no code with the engine. It prints how often each kind of
 // result was compared and how often it differed.
+#![tactic(auto)]
+
 mod calls;
 mod model;
 mod numbers;

@@ -1,5 +1,7 @@
 // The judge of Find: random graphs and queries, over which Find is to do as Draw plan does and then Run on
 // what it drew. It prints how often each kind of result was compared, and a line for each that differs.
+#![tactic(auto)]
+
 mod finds;
 mod stream;
 mod tallied;

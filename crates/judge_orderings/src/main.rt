@@ -1,6 +1,8 @@
 // The judge of All orderings: random graphs and queries, compared with a model that tries every list of
 // vertices and searches for the rows of each. It shares no code with the engine. It prints how often each
 // kind of result was compared and how often it differed.
+#![tactic(auto)]
+
 mod calls;
 mod model;
 mod search;

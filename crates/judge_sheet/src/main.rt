@@ -3,6 +3,8 @@
 // page stand its refusal and its page count, and after it the bytes past it, which stay. What must come
 // out, `stdout`, is by a writer that shares no code with the sheet: the tests in `tests/` compare it with
 // theirs. Matches are judged by `judge`.
+#![tactic(auto)]
+
 ghost use Rattle.std.specs.Prelude.{◌≤◌, ◌<◌, length};
 
 use libc::STDOUT_FILENO;

@@ -1,6 +1,8 @@
 // The judge of refusal 19: stores of random graphs, right and damaged, of few labels and many, few vertices
 // and many, compared with a model that makes each store's backward side anew. It shares no code with the
 // engine. It prints how often each kind of store was compared and how often the answers differed.
+#![tactic(auto)]
+
 mod damage;
 mod layout;
 mod make;

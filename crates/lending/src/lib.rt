@@ -1,6 +1,8 @@
 // Run for callers in the language that hold the records in an array: it lends them as the slice that Run
 // takes (document 02, request 4). `trace` and `judge` call it; from C and Rust Run is called by
 // `rizhavaan`.
+#![tactic(auto)]
+
 ghost use Rattle.std.specs.Prelude.{◌≤◌};
 ghost use Rattle.plan.specs.Plan.{max_operators};
 ghost use Rattle.lending.specs.Lending.{Fills};

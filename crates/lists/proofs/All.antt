@@ -43,11 +43,13 @@ module _ {A : Type 0} where
 
   pub mem-all : (p : A → Bool) {x : A} {xs : List A} → Memᴰ x xs → all p xs ≡ true → p x ≡ true
   unfolding all
+  mem-all p {xs = []} m h = elim m [ ]
   mem-all p {xs = y ∷ ys} (Memᴰ.head e) h = ap p e ∙ and_l (p y) (all p ys) h
   mem-all p {xs = y ∷ ys} (Memᴰ.tail m) h = mem-all p m (and_r (p y) (all p ys) h)
 
   pub mem-any : (p : A → Bool) {x : A} {xs : List A} → Memᴰ x xs → p x ≡ true → any p xs ≡ true
   unfolding any
+  mem-any p {xs = []} m h = elim m [ ]
   mem-any p {xs = y ∷ ys} (Memᴰ.head e) h = or_intro_l (p y) (any p ys) (sym (ap p e) ∙ h)
   mem-any p {xs = y ∷ ys} (Memᴰ.tail m) h = or_intro_r (p y) (any p ys) (mem-any p m h)
 

@@ -53,6 +53,7 @@ module _ {A : Type 0} where
 
   pub mem-count : (p : A → Bool) {x : A} {xs : List A} → Memᴰ x xs → p x ≡ true → 0 < count_if p xs
   unfolding count_if
+  mem-count p {xs = []} m h = elim m [ ]
   mem-count p {xs = y ∷ ys} (Memᴰ.head e) h = rw (sym (ap p e) ∙ h) (omega arith)
   mem-count p {xs = y ∷ ys} (Memᴰ.tail m) h = let ih : 0 < count_if p ys = mem-count p m h in omega arith
 

@@ -1,6 +1,8 @@
 // The operation Load: the graph file's faults, and the store of sorted labelled neighbour lists that an
 // accepted file is loaded to (document 01, 'The store'; 000, section 7). The file's fields are read by
 // `graph_file`; what a store is, `graph` says.
+#![tactic(auto)]
+
 ghost use Rattle.std.specs.Prelude.{◌≡◌, length};
 ghost use Rattle.graph.specs.Store.{load_store};
 ghost use Rattle.load.specs.Answer.{load_answer};

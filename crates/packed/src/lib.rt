@@ -2,6 +2,8 @@
 // files'). Which fields a file has is said in `graph`, `query`, `plan` and `change_file`.
 // `specs/Field.antt` says what a field is, `specs/Encode.antt` how numbers become bytes; `proofs/` has the
 // laws, for any width.
+#![tactic(auto)]
+
 mod put;
 
 ghost use Rattle.std.specs.Prelude.{◌≡◌, ◌+◌, ◌*◌, ◌/◌, ◌%◌, ◌^◌, ◌≤◌, ◌<◌, length, get_or};

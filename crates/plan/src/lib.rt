@@ -2,6 +2,8 @@
 // means'; 000, section 4.1). `specs/` says what a plan file holds and when it is refused, `proofs/` has
 // the laws; here is the plan as a struct. `plan_file` reads and checks one, `planner` draws one,
 // `executor` runs one.
+#![tactic(auto)]
+
 ghost use Rattle.std.specs.Prelude.{◌≡◌, ◌<◌};
 ghost use Rattle.query.specs.Inner.Struct.{as_edge};
 ghost use Rattle.query.specs.Inner.Mask.{MaskOf};

@@ -2,6 +2,8 @@
 // to set aside, the cost and the largest number of rows of any operator, none of which a run passes
 // (document 02, request 11). `specs/` says what they are and what is promised of a run, `proofs/` that it
 // is so. What a run does need is `run_spec`'s, and counted by `count`.
+#![tactic(auto)]
+
 mod capped;
 mod longest;
 mod pile;

@@ -1,6 +1,8 @@
 // The operation Check plan, refusals 12 to 18: the operators of a plan file read, and its rules tested
 // over the pile of covered sets (document 01, 'Operations and their refusals'). What the rules are stands
 // in `plan`.
+#![tactic(auto)]
+
 ghost use Rattle.std.specs.Prelude.{◌≡◌, ◌≤◌};
 ghost use Rattle.packed.specs.Field.{bits_in};
 ghost use Rattle.plan.specs.File.{operator_count, place, check_fault, check_answer};

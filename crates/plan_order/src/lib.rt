@@ -2,6 +2,8 @@
 // after the other by its query edges to the covered ones (document 02, request 5; 000's query vertex
 // orderings, section 3). The bytes of the drawn plan are `planner`'s; all orderings with their costs are
 // `plan_spectrum`.
+#![tactic(auto)]
+
 ghost use Rattle.std.specs.Prelude.{◌≡◌, ℕ, ◌<◌, ltb, get_or};
 ghost use Rattle.lists.specs.Lists.{bit};
 ghost use Rattle.graph.specs.Store.{graph_in, store_fault};

@@ -2,6 +2,8 @@
 // cost, and refusals 31 and 32 (document 02, request 12; 000's plan spectrum, section 8.2). They are
 // listed first; then each is run once, its rows counted and not written; and when none is refused, the
 // entries are written. The one ordering that the engine draws is `plan_order`'s.
+#![tactic(auto)]
+
 mod listing;
 mod writing;
 

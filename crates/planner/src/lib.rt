@@ -1,6 +1,8 @@
 // The operation Draw plan: from a store and a query to a packed plan of one scan and n - 2 extends, and
 // refusal 24 (document 02, requests 5 and 9). `specs/` says which bytes these are and when it is refused,
 // `proofs/` that they pass the plan check. Which vertex comes next is decided in `plan_order`.
+#![tactic(auto)]
+
 mod pack;
 
 ghost use Rattle.std.specs.Prelude.{◌≡◌, length};

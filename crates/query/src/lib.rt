@@ -2,6 +2,8 @@
 // files'; 000, section 2; document 02, requests 6 and 7). `specs/` says what a query file holds and when
 // it is refused, `proofs/` has the laws; here are the query as a struct and sets of its vertices.
 // `query_file` reads a file; what a match is stands in `matching`.
+#![tactic(auto)]
+
 ghost use Rattle.std.specs.Prelude.{◌≡◌, not, ◌&&◌, ℕ, ◌≤◌, ◌<◌, eqb};
 ghost use Rattle.lists.specs.Refusal.{refuse};
 ghost use Rattle.graph.specs.Graph.{max_day};

@@ -2,6 +2,8 @@
 // (4 bits), m (5), n vertices of label (16), first day (16), last day (16), then m edges of from (3), to
 // (3), label (8), then a pair count (4) and pairs of low (3), high (3). What the fields mean stands in
 // `query`.
+#![tactic(auto)]
+
 ghost use Rattle.std.specs.Prelude.{◌≡◌, map, ◌+◌, ◌*◌, ◌^◌, ◌≤◌, ◌<◌, length};
 ghost use Rattle.lists.specs.Lists.{range};
 ghost use Rattle.packed.specs.Field.{bits_in};

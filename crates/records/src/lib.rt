@@ -1,6 +1,8 @@
 // The records of a run, one an operator: kept by value while it runs, stored in the lent ones when it is
 // accepted (document 02, request 4; document 01, 'Where each language form goes': the thin function). What
 // stands in them comes from `totals`.
+#![tactic(auto)]
+
 ghost use Rattle.std.specs.Prelude.{◌≡◌, ◌++◌, ◌≤◌, ◌<◌, length, take, drop, get_or};
 ghost use Rattle.plan.specs.Plan.{max_operators};
 

@@ -1,6 +1,8 @@
 // The refusals by name, with the numbers that documents 01 ('Operations and their refusals') and 02 give
 // them. Code names them; the conditions, and the order in which faults are looked for, are definitions of
 // each operation and have the numbers. No operation gives 23 any more.
+#![tactic(auto)]
+
 #[derive(Drop)]
 pub struct Refusal {}
 

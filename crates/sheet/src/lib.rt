@@ -1,6 +1,8 @@
 // The operation Page: one page of a list's rows as text, of 60 lines of 80 columns, and refusals 33 to 35
 // (document 02, request 13). `specs/` says what every byte is, when a page is refused and what the pages
 // hold together; `proofs/` has the laws. Names in place of numbers are the program's, not the engine's.
+#![tactic(auto)]
+
 mod large;
 mod lines;
 mod number;

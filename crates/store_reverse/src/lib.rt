@@ -5,6 +5,8 @@
 // All entries of a side are taken in turn, with no loop for each list, whose end a processor guesses wrong
 // more often than not. The vertex of an entry is one less than how many lists begin at it or before it,
 // and that is counted for a block of entries at a time.
+#![tactic(auto)]
+
 pub mod hint;
 
 ghost use Rattle.std.specs.Prelude.{◌≡◌, ℕ, suc, ◌+◌, ◌-◌, ◌%◌, ◌≤◌, ◌<◌, eqb, length, get_or, take, drop};

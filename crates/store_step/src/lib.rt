@@ -1,6 +1,8 @@
 // One step of the walk over a store's entries: those of one vertex and one label are held against the
 // words at their neighbours' cursors. The walk itself is `store_walk`; both are a part of 19 (document 01,
 // 'Operations and their refusals', Run). An answer is a refusal, 0, or `UNDECIDED`.
+#![tactic(auto)]
+
 ghost use Rattle.std.specs.Prelude.{◌≡◌, ◌&&◌, ℕ, ◌+◌, ◌≤◌, ◌<◌, length};
 ghost use Rattle.graph.specs.Graph.{max_graph_vertices, max_graph_edges, entry_span, entry_end};
 ghost use Rattle.adjacency.specs.Inner.Side.{Within};

@@ -3,6 +3,8 @@
 // the other side, and a cursor for each vertex tells the next. A step of it is `store_step`. It is a part
 // of 19 (document 01, 'Operations and their refusals', Run): an answer of 0 or 19 is the store check's;
 // `UNDECIDED` leaves it to a search.
+#![tactic(auto)]
+
 pub mod passes;
 
 ghost use Rattle.std.specs.Prelude.{◌≡◌, ℕ, suc, ◌+◌, ◌≤◌, ◌<◌, length, get_or};

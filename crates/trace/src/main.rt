@@ -1,6 +1,8 @@
 // trace, the program of document 01 ('The program'): it loads the graph file g.bin of the folder it runs
 // in, runs the plan p.bin of the query q.bin over it with the cache on, and prints the rows, or the
 // refusal. It reads, calls and prints; what it prints is computed by `load` and `run`.
+#![tactic(auto)]
+
 ghost use Rattle.io.specs.Counts.{IsPrefixLen};
 
 use lending::Lending;

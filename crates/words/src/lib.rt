@@ -1,6 +1,8 @@
 // Parts of lent words cleared, copied and moved, for the crates that write a store, a scratch or a word
 // list. What is in the words is not its matter. Run's scratch is cleared by it (document 01, 'Cost and
 // scratch').
+#![tactic(auto)]
+
 ghost use Rattle.std.specs.Prelude.{◌≡◌, ◌++◌, ◌+◌, ◌-◌, ◌≤◌, ◌<◌, length, get_or, take, drop, replicate};
 
 const BLOCK: usize = 4096;
