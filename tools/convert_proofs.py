@@ -36,15 +36,21 @@ class Names:
 
     def step(self, place, word):
         """The new name of a step at the place or at one further out, and its callee."""
-        want = plain(word)
+        for it in (word, re.sub("_lem$", "", word), re.sub(r"\d+$", "", word)):
+            got = self.named(place, plain(it).lower())
+            if got[0] is not None:
+                return got
+        return None, None
+
+    def named(self, place, want):
         at = place
         while at:
             p = self.places[at]
-            if plain(p[2][0]) == want:
+            if plain(p[2][0]).lower() == want:
                 return p[2][1], p[3]
             at = p[1]
         for p in self.places.values():
-            if plain(p[2][0]) == want:
+            if plain(p[2][0]).lower() == want:
                 return p[2][1], p[3]
         return None, None
 
@@ -65,6 +71,7 @@ class Turner:
     def __init__(self, names, where, said, shorts):
         self.names, self.where, self.said, self.shorts = names, where, said, shorts
         self.aliases = {"c"}
+        self.of_requires = set()
 
     def left(self, what):
         self.said.append(f"left: {self.where}: {what}")
@@ -89,6 +96,8 @@ class Turner:
             return ".".join(["c", "requires", *tail])
         if first in ("args", "ranges", "type_inv", "utf8"):
             return ".".join(["c", *segs])
+        if first in ("well-formed", "well_formed"):
+            return ".".join(["c", "type_inv", *segs[1:]])
         new, callee = self.names.step(place, first)
         if new is None:
             self.left(f"no step {first} at {place}")
@@ -107,15 +116,23 @@ class Turner:
             self.aliases.add(m[1])
             return ""
 
+        def drop_requires(m):
+            self.of_requires.add(m[1])
+            return ""
+
         while True:
             alias = "|".join(map(re.escape, sorted(self.aliases, key=len, reverse=True)))
             new = re.sub(r"\blet (%s) = (?:%s)((?:\.before)*)\s+in\s+" % (WORD, alias), drop, text, count=1)
+            if new == text and self.names.pre and len(self.names.pre.get("fields") or []) > 1:
+                new = re.sub(r"\blet (%s) = (?:%s)((?:\.before)*)\.requires\s+in\s+" % (WORD, alias), drop_requires, text, count=1)
             if new == text:
                 break
             text = new
 
         def turn(m):
             head, rest = m[1], m[2]
+            if head in self.of_requires:
+                return self.path("c", ".requires" + rest, place)
             if head in self.aliases:
                 got = self.path(head, rest, place)
                 return "c" if got is None else got
@@ -138,7 +155,10 @@ def decls_of(text):
             i += 1
             continue
         if line.startswith("use ") or line.startswith("pub use "):
-            out.append(("use", line))
+            while "{" in line and "}" not in line:
+                i += 1
+                line += " " + lines[i].strip()
+            out.append(("use", line.replace("{ ", "{").replace(", }", "}")))
             i += 1
             continue
         block = [line]
@@ -374,6 +394,9 @@ def convert(crate, path, names, said, module):
             if plain(m[1]) in names.asked or plain(new) in names.asked:
                 fields = names.asked.get(plain(m[1])) or names.asked.get(plain(new))
                 rec = as_record(body, fields) if len(fields) > 1 else body
+                if rec is None and re.match(r"(?:let\b|[\w(])", body.strip()) and not re.match(r"(rw|let|search|omega|grind|simp)\b", body.strip()):
+                    places = [".1" * i + (".0" if i < len(fields) - 1 else "") for i in range(len(fields))]
+                    rec = f"let all = {body.strip()} in\n    record {{ " + "; ".join(f"{f} = all{p}" for f, p in zip(fields, places)) + " }"
                 if rec is None:
                     said.append(f"left: {where}: {new} is a record of {' '.join(fields)}")
                 else:

@@ -1,0 +1,73 @@
+-- `graph_file::edges_fault` meets its contract. The loop's invariant: no edge before i is at fault, and `least` is one more than
+-- the key of the edge before i. Assumes nothing.
+use mathlib.Core.Path.{◌≡◌, sym}
+use Prim.Native.Nat.{◌≤◌, ◌-◌}
+use native.Mathlib.Omega.{arith}
+use borrow.Author.Rules.{rules}
+use Rattle.graph.specs.File.{edge_count}
+use Rattle.graph_file.specs.Inner.Reading.{graph_edges_fault}
+use Rattle.graph_file.proofs.Refused.{Faultless, Read, faultless-start, fault-source, fault-target, fault-label, fault-order, fault-none, read-fault, read_more}
+use Rattle.graph_file.proofs.edges_fault.Goals as goal
+
+pub loop-i-init : goal.loop-i-init
+loop-i-init c = (search rules, faultless-start _)
+
+pub returns-then-n-s : goal.returns-then-n-s
+returns-then-n-s c = let read : let a = c.args in
+    Read a.file.now a.n c.loop-i.least c.loop-i.i c.source-s.result c.forward_entry-e.result = record {
+      vertices = c.requires.0.vertices;
+      earlier = c.loop-i.invariant.1;
+      source = c.source-s.ensures.0;
+      its_entry = c.forward_entry-e.ensures.0;
+    } in
+    read-fault (read) (omega arith) (fault-source _ _ _ _ c.if-n-s.true) (λ z. omega arith)
+
+pub returns-then-n-e : goal.returns-then-n-e
+returns-then-n-e c = let read : let a = c.args in
+    Read a.file.now a.n c.loop-i.least c.loop-i.i c.source-s.result c.forward_entry-e.result = record {
+      vertices = c.requires.0.vertices;
+      earlier = c.loop-i.invariant.1;
+      source = c.source-s.ensures.0;
+      its_entry = c.forward_entry-e.ensures.0;
+    } in
+    read-fault (read) (omega arith) (fault-target _ _ _ _ (omega arith) c.if-n-e.true) (λ z. omega arith)
+
+pub returns-then-e-eq0 : goal.returns-then-e-eq0
+returns-then-e-eq0 c = let read : let a = c.args in
+    Read a.file.now a.n c.loop-i.least c.loop-i.i c.source-s.result c.forward_entry-e.result = record {
+      vertices = c.requires.0.vertices;
+      earlier = c.loop-i.invariant.1;
+      source = c.source-s.ensures.0;
+      its_entry = c.forward_entry-e.ensures.0;
+    } in
+    let n = c.args.n in
+    read-fault (read) (omega arith)
+    (fault-label n c.loop-i.least c.source-s.result c.forward_entry-e.result (omega arith) (omega arith) c.if-e-eq0.true) (λ z. omega arith)
+
+pub returns-then-key-least : goal.returns-then-key-least
+returns-then-key-least c = let read : let a = c.args in
+    Read a.file.now a.n c.loop-i.least c.loop-i.i c.source-s.result c.forward_entry-e.result = record {
+      vertices = c.requires.0.vertices;
+      earlier = c.loop-i.invariant.1;
+      source = c.source-s.ensures.0;
+      its_entry = c.forward_entry-e.ensures.0;
+    } in
+    read-fault (read) (omega arith) (fault-order _ _ _ _ (omega arith) (omega arith) c.if-e-eq0.false c.edge_key-key.ensures c.if-key-least.true) (λ z. omega arith)
+
+pub loop-i-preserved : goal.loop-i-preserved
+loop-i-preserved c = let read : let a = c.args in
+    Read a.file.now a.n c.loop-i.least c.loop-i.i c.source-s.result c.forward_entry-e.result = record {
+      vertices = c.requires.0.vertices;
+      earlier = c.loop-i.invariant.1;
+      source = c.source-s.ensures.0;
+      its_entry = c.forward_entry-e.ensures.0;
+    } in
+    (
+  search rules,
+  read_more (read) (fault-none _ _ _ _ (omega arith) (omega arith) c.if-e-eq0.false c.edge_key-key.ensures c.if-key-least.false) c.edge_key-key.ensures,
+)
+
+pub returns : goal.returns
+unfolding graph_edges_fault
+returns c = let all : c.loop-i.i ≡ edge_count c.args.file.now = omega arith in
+    rw (← all) (sym c.loop-i.invariant.1.none)

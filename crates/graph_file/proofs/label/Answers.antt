@@ -1,0 +1,8 @@
+-- `graph_file::label` meets its contract: it is a part of the forward entry. Assumes nothing.
+use native.Mathlib.Omega.{arith}
+use borrow.Author.Rules.{rules}
+use Rattle.graph_file.proofs.Entries.{entry-label}
+use Rattle.graph_file.proofs.label.Goals as goal
+
+pub returns : goal.returns
+returns c = (entry-label _ _ c.forward_entry.ensures.0, omega arith)

@@ -1,0 +1,11 @@
+-- `judge_sheet::words` is safe and ends. Assumes nothing.
+use Prim.Native.Nat.{◌-◌, ◌≤◌}
+use native.Mathlib.Omega.{arith}
+use borrow.Author.Rules.{rules}
+use Rattle.judge_sheet.proofs.words.Given as goal
+
+abbrev pub invariant-loop-i : goal.invariant-loop-i
+invariant-loop-i l = (1 ≤ l.i) × (l.i ≤ 952)
+
+abbrev pub decreases-loop-i : goal.decreases-loop-i
+decreases-loop-i l = 952 - l.i

@@ -1,0 +1,9 @@
+-- `plan::ends` meets its contract. Assumes nothing.
+use mathlib.Core.Path.{ap₂, ◌∙◌}
+use mathlib.Core.Bool.{◌||◌}
+use Rattle.query.proofs.Masks.{in-or}
+use borrow.Author.Rules.{rules}
+use Rattle.plan.proofs.ends.Goals as goal
+
+pub returns : goal.returns
+returns c = in-or _ _ w ∙ ap₂ ◌||◌ (c.only.ensures w) (c.only-2.ensures w)

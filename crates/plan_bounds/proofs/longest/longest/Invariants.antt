@@ -1,0 +1,21 @@
+-- `plan_bounds::longest::longest` meets its contract: the loop's invariant: the most so far is that of the vertices before v. A portion is no longer than its list. Assumes nothing.
+use mathlib.Core.Path.{◌≡◌, refl, sym, ◌∙◌, ap}
+use mathlib.Core.List.{List}
+use Prim.Native.Nat.{ℕ, ◌-◌, ◌≤◌}
+use native.Mathlib.Nat.{le_trans}
+use native.Mathlib.Omega.{arith}
+use lib.ListN.{length}
+use borrow.Author.Rules.{rules}
+use Rattle.lists.specs.Lists.{range, largest}
+use Rattle.graph.specs.Graph.{Direction, portion_length}
+use Rattle.graph.specs.Store.{graph_in}
+use Rattle.adjacency.specs.Inner.Side.{side_in, Lookup}
+use Rattle.adjacency.proofs.Accepted.{lookup-within}
+use Rattle.plan_bounds.proofs.Seeing.{lookup, portion-is, portion-in-list, longest-pass, longest-take, longest-all}
+use Rattle.plan_bounds.proofs.longest.longest.Given as goal
+
+abbrev pub invariant-loop-v : goal.invariant-loop-v
+invariant-loop-v l = (l.v ≤ l.n) × ((d : Direction) → l.side ≡ side_in d l.store → l.most ≡ largest (portion_length (graph_in l.store) d l.label) (range l.v))
+
+abbrev pub decreases-loop-v : goal.decreases-loop-v
+decreases-loop-v l = l.n - l.v

@@ -1,0 +1,48 @@
+-- `plan_file::rules::rule_fault` meets its contract, by the operator and the depth of the pile. Assumes nothing.
+use mathlib.Core.Path.{sym, ◌∙◌}
+use native.Mathlib.Omega.{arith}
+use borrow.Author.Rules.{rules}
+use Rattle.plan.specs.Check.{rule_fault}
+use Rattle.plan_file.specs.Inner.Pile.{masks_in}
+use Rattle.plan.proofs.Sets.{named-vertex}
+use Rattle.plan_file.proofs.Piles.{depth_is}
+use Rattle.plan.proofs.Piles.{extend-none, extend-some, join-few, join-two}
+use Rattle.plan_file.proofs.rules.rule_fault.Goals as goal
+
+pub returns-then-pile-lt1 : goal.returns-then-pile-lt1
+returns-then-pile-lt1 c = let a = c.args in
+    rw c.o-1.given.1 (sym (extend-none _ _ (masks_in a.pile) (omega (arith, depth_is a.pile, c.if-pile-lt1.true))))
+
+pub below_top-requires : goal.below_top-requires
+below_top-requires c = (c.if-pile-lt1.false, c.requires.2)
+
+pub extend_fault-requires : goal.extend_fault-requires
+extend_fault-requires c = let pre = c.requires in
+    (pre.0, named-vertex _ pre.0 _ (rw c.o-1.given.1 at pre.1))
+
+pub returns-then-pile-lt2 : goal.returns-then-pile-lt2
+returns-then-pile-lt2 c = let a = c.args in
+    rw c.enum_told-in-Join-1.given.1 (sym (join-few _ (masks_in a.pile) (omega (arith, depth_is a.pile, c.if-pile-lt2.true))))
+
+pub below_top-requires-in-Join : goal.below_top-requires-in-Join
+below_top-requires-in-Join c = (c.if-pile-lt2.false, c.requires.2)
+
+pub below_top-requires-in-Join-2 : goal.below_top-requires-in-Join-2
+below_top-requires-in-Join-2 c = (omega (arith, c.if-pile-lt2.false), c.requires.2)
+
+pub join_fault-requires : goal.join_fault-requires
+join_fault-requires c = c.requires.0
+
+pub returns-in-Scan : goal.returns-in-Scan
+unfolding rule_fault
+returns-in-Scan c = rw c.enum_told-1.given.1
+
+pub returns-else-pile-lt1 : goal.returns-else-pile-lt1
+returns-else-pile-lt1 c = let a = c.args in
+    rw c.o-1.given.1 (c.extend_fault.ensures ∙ rw c.below_top.ensures (sym (extend-some _ _ (masks_in a.pile) (omega (arith, depth_is a.pile, c.if-pile-lt1.false)))))
+
+pub returns-else-pile-lt2 : goal.returns-else-pile-lt2
+returns-else-pile-lt2 c = let a = c.args in
+    rw c.enum_told-in-Join-1.given.1
+    (c.join_fault.ensures
+    ∙ rw (c.below_top-in-Join-2.ensures, c.below_top-in-Join.ensures) (sym (join-two _ (masks_in a.pile) (omega (arith, depth_is a.pile, c.if-pile-lt2.false)))))

@@ -1,0 +1,16 @@
+-- `plan_order::count_labels` meets its contract. The loop's invariant: the counts are those of the first i entries.
+-- Assumes nothing.
+use mathlib.Core.Path.{◌≡◌, refl}
+use Prim.Native.Nat.{◌-◌, ◌≤◌}
+use native.Mathlib.Omega.{arith}
+use lib.ListN.{length}
+use borrow.Author.Rules.{rules}
+use Rattle.counting_sort.proofs.Counting.{Tallied, tallied-none, tallied-fits, tallied-more}
+use Rattle.plan_order.proofs.Tallies.{label_at, label-below, tallied-all}
+use Rattle.plan_order.proofs.count_labels.Given as goal
+
+abbrev pub invariant-loop-i : goal.invariant-loop-i
+invariant-loop-i l = (l.i ≤ length l.entries) × Tallied (label_at l.entries) 256 l.i l.counts
+
+abbrev pub decreases-loop-i : goal.decreases-loop-i
+decreases-loop-i l = length l.entries - l.i

@@ -1,0 +1,53 @@
+-- `plan_spectrum::run_orderings` meets its contract. Assumes nothing.
+use mathlib.Core.Path.{◌∙◌}
+use Prim.Native.Nat.{◌-◌}
+use native.Mathlib.Omega.{arith}
+use Rattle.graph.specs.Store.{graph_in}
+use Rattle.query.specs.Inner.Struct.{query_in}
+use Rattle.plan_spectrum.proofs.Pricing.{Priced, price-start, row_fits, runs, priced-refused, priced-more, price-done}
+use Rattle.plan_spectrum.proofs.run_orderings.Goals as goal
+
+pub overflow_sub-width : goal.overflow_sub-width
+overflow_sub-width c = omega (arith, c.requires.small.at-least)
+
+pub loop-k-init : goal.loop-k-init
+loop-k-init c = price-start c.args.store.now c.args.q c.args.list.now c.args.plans c.args.work.now c.args.costs.now c.requires
+
+pub overflow_mul-k : goal.overflow_mul-k
+overflow_mul-k c = let lp = c.loop-k in
+    omega (arith, row_fits c.args.store.now c.args.q c.args.list.now c.args.plans c.args.work.now c.args.costs.now c.requires lp.k c.loop-k-test.true)
+
+pub plan_at-plan-requires : goal.plan_at-plan-requires
+plan_at-plan-requires c = let lp = c.loop-k in
+    (row_fits c.args.store.now c.args.q c.args.list.now c.args.plans c.args.work.now c.args.costs.now c.requires lp.k c.loop-k-test.true, omega (arith, c.requires.small.at_most))
+
+pub count_run-tally-requires : goal.count_run-tally-requires
+count_run-tally-requires c = let lp = c.loop-k in
+    runs c.args.store.now c.args.q c.args.list.now c.args.plans c.args.work.now c.args.costs.now c.requires lp.work lp.costs lp.k lp.invariant c.loop-k-test.true c.plan_at-plan.result c.plan_at-plan.ensures.0 c.plan_at-plan.ensures.1
+
+pub returns-then-tally-ne0 : goal.returns-then-tally-ne0
+returns-then-tally-ne0 c = let lp = c.loop-k in
+    priced-refused c.args.store.now c.args.q c.args.list.now c.args.plans c.args.work.now c.args.costs.now c.requires lp.work lp.costs lp.k lp.invariant c.loop-k-test.true c.plan_at-plan.result c.plan_at-plan.ensures.0 c.plan_at-plan.ensures.1 c.count_run-tally.result c.count_run-tally.ensures c.if-tally-ne0.true
+
+pub offset_bounds-costs-k : goal.offset_bounds-costs-k
+offset_bounds-costs-k c = let lp = c.loop-k in
+    omega (arith, c.requires.room, lp.invariant.costs_kept, c.loop-k-test.true)
+
+pub bounds-costs-k : goal.bounds-costs-k
+bounds-costs-k c = let lp = c.loop-k in
+    omega (arith, c.requires.room, lp.invariant.costs_kept, c.loop-k-test.true)
+
+pub overflow_add-k : goal.overflow_add-k
+overflow_add-k c = omega (arith, c.loop-k-test.true)
+
+pub loop-k-smaller : goal.loop-k-smaller
+loop-k-smaller c = omega (arith, c.loop-k-test.true)
+
+pub loop-k-preserved : goal.loop-k-preserved
+loop-k-preserved c = let lp = c.loop-k in
+    priced-more c.args.store.now c.args.q c.args.list.now c.args.plans c.args.work.now c.args.costs.now c.requires lp.work lp.costs lp.k lp.invariant c.loop-k-test.true c.plan_at-plan.result c.plan_at-plan.ensures.0 c.plan_at-plan.ensures.1 c.count_run-tally.result c.count_run-tally.ensures c.if-tally-ne0.false
+    (omega (arith, c.requires.room, lp.invariant.costs_kept, c.loop-k-test.true)) c.count_run-tally.new.work c.count_run-tally.auto.work
+
+pub returns : goal.returns
+returns c = let lp = c.loop-k in
+    price-done c.args.store.now c.args.q c.args.list.now c.args.plans c.args.work.now c.args.costs.now c.requires lp.work lp.costs lp.k lp.invariant (λ h. absurd (omega (arith, h, c.loop-k-test.false)))

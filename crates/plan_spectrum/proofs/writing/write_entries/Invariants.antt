@@ -1,0 +1,13 @@
+-- `plan_spectrum::writing::write_entries` meets its contract. Assumes nothing.
+use Prim.Native.Nat.{◌+◌, ◌-◌, ◌*◌}
+use native.Mathlib.Omega.{arith}
+use lib.ListN.{length}
+use borrow.Rule.Slice.PartMut.{same_len_mid}
+use Rattle.plan_spectrum.proofs.Entering.{Entered, list-fits, room_fits, enter-start, enter-asks, entered, enter-done}
+use Rattle.plan_spectrum.proofs.writing.write_entries.Given as goal
+
+abbrev pub invariant-loop-k : goal.invariant-loop-k
+invariant-loop-k l = Entered l.width l.plans l.list l.costs l.initial.out l.out l.k
+
+abbrev pub decreases-loop-k : goal.decreases-loop-k
+decreases-loop-k l = l.plans - l.k

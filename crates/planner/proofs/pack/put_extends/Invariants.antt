@@ -1,0 +1,23 @@
+-- `planner::pack::put_extends` meets its contract. The loop's invariant: the bits of the first i extends are written. Assumes nothing.
+use mathlib.Core.Path.{◌≡◌, sym, ◌∙◌, ap}
+use mathlib.Core.List.{List, ◌++◌}
+use mathlib.Core.Path.{refl}
+use Prim.Native.Nat.{ℕ, ◌+◌, ◌-◌, ◌*◌, ◌≤◌, ◌<◌}
+use native.Mathlib.Omega.{arith}
+use lib.ListN.{length, length-append}
+use borrow.Author.Rules.{rules}
+use Rattle.packed.specs.Inner.Put.{written}
+use Rattle.query.specs.Inner.Mask.{in_mask}
+use Rattle.query.specs.Inner.Struct.{query_in}
+use Rattle.plan_order.specs.Order.{next_vertex, extends_from}
+use Rattle.planner.proofs.Ordering.{length-extends}
+use Rattle.planner.proofs.Turns.{Turned, turned_none, turned-next, turned_more, bits_to, length-bits_to, bits_to-none, bits_to-more, bits_to-all}
+use Rattle.planner.proofs.pack.put_extends.Given as goal
+
+abbrev pub invariant-loop-i : goal.invariant-loop-i
+invariant-loop-i l = (l.at ≡ 12 + 5 * l.i) × (l.i ≤ l.extends) × (length l.plan ≡ length l.initial.plan) × Turned (query_in l.q) (in_mask l.set) l.extends l.i l.covered
+    × ((old bits : List ℕ) → l.initial.plan ≡ written old bits → length bits ≡ 12
+    → l.plan ≡ written old (bits ++ bits_to (extends_from (query_in l.q) (in_mask l.set) l.extends) l.i))
+
+abbrev pub decreases-loop-i : goal.decreases-loop-i
+decreases-loop-i l = l.extends - l.i

@@ -1,0 +1,28 @@
+-- `query_file::faults::days_fault` meets its contract: no vertex before w has a fault. Assumes nothing.
+use mathlib.Core.Path.{◌≡◌, refl, sym}
+use Prim.Native.Nat.{◌-◌, ◌≤◌}
+use native.Mathlib.Omega.{arith}
+use borrow.Author.Rules.{rules}
+use Rattle.lists.specs.Lists.{range}
+use Rattle.lists.specs.Refusal.{first}
+use Rattle.query_file.specs.Inner.Parts.{query_days_fault}
+use Rattle.query_file.proofs.FileLaws.{days-next, days-stop}
+use Rattle.query_file.proofs.faults.days_fault.Goals as goal
+
+pub loop-w-init : goal.loop-w-init
+unfolding query_days_fault range first
+loop-w-init c = (omega arith, refl)
+
+pub returns-then-last-first : goal.returns-then-last-first
+returns-then-last-first c = let a = c.args in
+    let l = c.loop-w in
+    sym (days-stop a.file.now l.w l.invariant.1 a.n (search rules) (omega arith))
+
+pub loop-w-preserved : goal.loop-w-preserved
+loop-w-preserved c = let a = c.args in
+    let l = c.loop-w in
+    (omega arith, days-next a.file.now l.w l.invariant.1 (omega arith))
+
+pub returns : goal.returns
+returns c = let all : c.loop-w.w ≡ c.args.n = omega arith in
+    sym (rw all at c.loop-w.invariant.1)

@@ -1,0 +1,40 @@
+-- `query_file::faults::edges_fault` meets its contract: no edge before i has a fault, and `least` is the least key that ascends at i.
+-- Assumes nothing.
+use mathlib.Core.Path.{◌≡◌, refl, sym, ◌∙◌}
+use Prim.Native.Nat.{◌-◌, ◌≤◌}
+use native.Mathlib.Omega.{arith}
+use borrow.Author.Rules.{rules}
+use Rattle.lists.specs.Lists.{range}
+use Rattle.lists.specs.Refusal.{first}
+use Rattle.query_file.specs.Inner.Parts.{query_edges_fault}
+use Rattle.query_file.proofs.FileLaws.{key-lt, least_key, fault-here, least-next, edges-next, edges-stop}
+use Rattle.query_file.proofs.faults.edges_fault.Goals as goal
+
+pub loop-i-init : goal.loop-i-init
+unfolding query_edges_fault least_key range first
+loop-i-init c = (omega arith, refl, refl)
+
+pub returns-then-fault-ne0 : goal.returns-then-fault-ne0
+returns-then-fault-ne0 c = let a = c.args in
+    let l = c.loop-i in
+    let here = fault-here a.file.now a.n _ l.i c.requires.0 c.edge_start-at.ensures l.least _ l.invariant.2 c.edge_fault-fault.ensures in
+    here ∙ sym (edges-stop a.file.now a.m l.i (search rules) l.invariant.1 (λ z. c.if-fault-ne0.true (here ∙ z)))
+
+pub overflow_add-least : goal.overflow_add-least
+overflow_add-least c = let a = c.args in
+    omega (arith, key-lt a.file.now c.edge_start-at.result)
+
+pub loop-i-preserved : goal.loop-i-preserved
+loop-i-preserved c = let a = c.args in
+    let l = c.loop-i in
+    let count = c.requires.0 in
+    let place = c.edge_start-at.ensures in
+    let none = sym (fault-here a.file.now a.n _ l.i count place l.least _ l.invariant.2 c.edge_fault-fault.ensures) ∙ c.if-fault-ne0.false in (
+      omega arith,
+      edges-next a.file.now l.i l.invariant.1 none,
+      least-next a.file.now a.n _ l.i count place c.edge_key-least.result c.edge_key-least.ensures,
+    )
+
+pub returns : goal.returns
+returns c = let all : c.loop-i.i ≡ c.args.m = omega arith in
+    sym (rw all at c.loop-i.invariant.1)

@@ -1,0 +1,54 @@
+-- `query_file::faults::pairs_fault` meets its contract: no pair before i has a fault, and `least` is the least key that ascends at i.
+-- Assumes nothing.
+use mathlib.Core.Path.{◌≡◌, refl, sym, ◌∙◌}
+use Prim.Native.Nat.{◌-◌, ◌≤◌, ◌<◌}
+use native.Mathlib.Omega.{arith}
+use borrow.Author.Rules.{rules}
+use Rattle.lists.specs.Lists.{range}
+use Rattle.lists.specs.Refusal.{first}
+use Rattle.query.specs.File.{pair_count}
+use Rattle.query_file.specs.Inner.Parts.{query_pairs_fault}
+use Rattle.query_file.proofs.Structs.{at-most-pairs}
+use Rattle.query_file.proofs.FileLaws.{pair-key-lt, least_pair, pair-fault-here, least-pair-next, pairs_next, pairs-stop}
+use Rattle.query_file.proofs.faults.pairs_fault.Goals as goal
+
+pub loop-i-init : goal.loop-i-init
+unfolding query_pairs_fault least_pair range first
+loop-i-init c = (omega arith, refl, refl)
+
+pub pair_start-at-requires : goal.pair_start-at-requires
+pair_start-at-requires c = let few = at-most-pairs c.args.file.now in
+    search rules
+
+pub pair_fault-fault-requires : goal.pair_fault-fault-requires
+pair_fault-fault-requires c = let few = at-most-pairs c.args.file.now in
+    search rules
+
+pub returns-then-fault-ne0 : goal.returns-then-fault-ne0
+returns-then-fault-ne0 c = let a = c.args in
+    let pre = c.requires in
+    let l = c.loop-i in
+    let s = a.file.now in
+    let below : l.i < pair_count s = omega arith in
+    let here = pair-fault-here s a.n a.m _ l.i pre.0 pre.1 c.pair_start-at.ensures l.least _ l.invariant.2 c.pair_fault-fault.ensures in
+    here ∙ sym (pairs-stop s (pair_count s) l.i below l.invariant.1 (λ z. c.if-fault-ne0.true (here ∙ z)))
+
+pub overflow_add-least : goal.overflow_add-least
+overflow_add-least c = let a = c.args in
+    omega (arith, pair-key-lt a.file.now c.pair_start-at.result)
+
+pub loop-i-preserved : goal.loop-i-preserved
+loop-i-preserved c = let a = c.args in
+    let pre = c.requires in
+    let l = c.loop-i in
+    let s = a.file.now in
+    let place = c.pair_start-at.ensures in
+    let here = pair-fault-here s a.n a.m _ l.i pre.0 pre.1 place l.least _ l.invariant.2 c.pair_fault-fault.ensures in (
+      omega arith,
+      pairs_next s l.i l.invariant.1 (sym here ∙ c.if-fault-ne0.false),
+      least-pair-next s a.n a.m _ l.i pre.0 pre.1 place c.pair_key-least.result c.pair_key-least.ensures,
+    )
+
+pub returns : goal.returns
+returns c = let all : c.loop-i.i ≡ pair_count c.args.file.now = omega arith in
+    sym (rw all at c.loop-i.invariant.1)

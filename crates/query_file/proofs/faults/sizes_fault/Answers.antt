@@ -1,0 +1,30 @@
+-- `query_file::faults::sizes_fault` meets its contract: the bits up to the pair count, then those of the whole. Assumes nothing.
+use mathlib.Core.Path.{◌≡◌, sym, ◌∙◌, ap}
+use Prim.Native.Nat.{◌≤◌, ◌<◌}
+use native.Mathlib.Omega.{arith}
+use lib.ListN.{length}
+use borrow.Author.Rules.{rules}
+use Rattle.query.specs.File.{pair_count, pair_start, counted_size}
+use Rattle.query_file.specs.Inner.Parts.{size_fault}
+use Rattle.query_file.proofs.Structs.{at-most-pairs}
+use Rattle.query_file.proofs.FileLaws.{counted-first, sizes-last}
+use Rattle.query_file.proofs.faults.sizes_fault.Goals as goal
+
+pub returns-then-file-bytes_for : goal.returns-then-file-bytes_for
+returns-then-file-bytes_for c = let s = c.args.file.now in
+    let short : length s < counted_size s = omega arith in
+    sym (counted-first s short)
+
+pub pair_start-requires-2 : goal.pair_start-requires-2
+pair_start-requires-2 c = let s = c.args.file.now in
+    omega (arith, at-most-pairs s)
+
+pub size_fault-requires : goal.size_fault-requires
+size_fault-requires c = let s = c.args.file.now in
+    omega (arith, at-most-pairs s)
+
+pub returns : goal.returns
+returns c = let s = c.args.file.now in
+    let long : counted_size s ≤ length s = omega arith in
+    let place : c.pair_start-2.result ≡ pair_start s (pair_count s) = omega arith in
+    c.size_fault.ensures ∙ ap (size_fault s) place ∙ sym (sizes-last s long)

@@ -1,0 +1,13 @@
+-- `query_file::pair_count` meets its contract. Assumes nothing.
+use mathlib.Core.Path.{◌≡◌, ◌∙◌, ap}
+use Prim.Native.Nat.{ℕ}
+use native.Mathlib.Omega.{arith}
+use borrow.Author.Rules.{rules}
+use Rattle.packed.specs.Field.{field_at}
+use Rattle.query.specs.File.{edge_count, edge_start}
+use Rattle.query_file.proofs.pair_count.Goals as goal
+
+pub returns : goal.returns
+returns c = let s = c.args.file.now in
+    let place : c.edge_start.result ≡ edge_start s (edge_count s) = omega arith in
+    c.field.ensures ∙ ap (λ (at : ℕ). field_at s at 4) place

@@ -1,0 +1,7 @@
+-- `rizhavaan::rizhavaan_count` meets its contract: its numbers are Count's answer. Assumes nothing.
+use mathlib.Core.Path.{sym}
+use borrow.Author.Rules.{rules}
+use Rattle.rizhavaan.proofs.rizhavaan_count.Goals as goal
+
+pub returns : goal.returns
+returns c = let e = c.count-answer.ensures in (sym e.0, e.1)

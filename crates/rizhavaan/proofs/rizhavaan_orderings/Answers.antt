@@ -1,0 +1,7 @@
+-- `rizhavaan::rizhavaan_orderings` meets its contract: its number is the answer of all orderings. Assumes nothing.
+use mathlib.Core.Path.{sym}
+use borrow.Author.Rules.{rules}
+use Rattle.rizhavaan.proofs.rizhavaan_orderings.Goals as goal
+
+pub returns : goal.returns
+returns c = let e = c.orderings-answer.ensures in (sym e.0, e.1)

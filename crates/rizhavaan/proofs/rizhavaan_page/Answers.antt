@@ -1,0 +1,7 @@
+-- `rizhavaan::rizhavaan_page` meets its contract: its number is the page's answer. Assumes nothing.
+use mathlib.Core.Path.{sym}
+use borrow.Author.Rules.{rules}
+use Rattle.rizhavaan.proofs.rizhavaan_page.Goals as goal
+
+pub returns : goal.returns
+returns c = let e = c.page-answer.ensures in (sym e.0, e.1)

@@ -1,0 +1,13 @@
+-- `sheet::lines::put_numbers` meets its contract: the first i numbers are written, blanks follow. Assumes nothing.
+use Prim.Native.Nat.{◌+◌, ◌-◌, ◌*◌}
+use native.Mathlib.Omega.{arith}
+use borrow.Author.Rules.{rules}
+use lib.ListN.{length}
+use Rattle.sheet.proofs.Numbered.{Numbered, numbered-none, numbered-kept, numbered-part, numbered_next, numbered-all, asked, fitting-at}
+use Rattle.sheet.proofs.lines.put_numbers.Given as goal
+
+abbrev pub invariant-loop-i : goal.invariant-loop-i
+invariant-loop-i l = Numbered l.numbers l.initial.text l.text l.i
+
+abbrev pub decreases-loop-i : goal.decreases-loop-i
+decreases-loop-i l = length l.numbers - l.i

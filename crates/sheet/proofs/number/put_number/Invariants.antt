@@ -1,0 +1,13 @@
+-- `sheet::number::put_number` meets its contract: the digits after those that are left are written. Assumes nothing.
+use Prim.Native.Nat.{◌-◌}
+use native.Mathlib.Omega.{arith}
+use borrow.Author.Rules.{rules}
+use lib.ListN.{length}
+use Rattle.sheet.proofs.Numbers.{Writing, start, next, last}
+use Rattle.sheet.proofs.number.put_number.Given as goal
+
+abbrev pub invariant-loop-i : goal.invariant-loop-i
+invariant-loop-i l = Writing l.x (length l.initial.columns) l.columns l.i l.rest
+
+abbrev pub decreases-loop-i : goal.decreases-loop-i
+decreases-loop-i l = l.i

@@ -1,0 +1,28 @@
+-- `store_check::reversed_lists_fault` meets its contract: the lists of the vertices below v fit, and have their reverses. Assumes nothing.
+use Prim.Native.Nat.{ℕ, ◌-◌}
+use native.Mathlib.Omega.{arith}
+use mathlib.Core.Path.{◌∙◌}
+use mathlib.Core.Bool.{◌&&◌}
+use Rattle.adjacency.specs.Inner.Side.{list_on}
+use Rattle.store_reverse.specs.Inner.Check.{list_fits, list_reversed}
+use Rattle.store_reverse.proofs.Loops.{AllBelow, lists-both, below-start, below_next, below-stop, below_end}
+use Rattle.store_check.proofs.reversed_lists_fault.Goals as goal
+
+pub loop-v-init : goal.loop-v-init
+loop-v-init c = below-start
+
+pub neighbours-requires : goal.neighbours-requires
+neighbours-requires c = c.requires.by_index c.loop-v.v (omega arith)
+
+pub reversed_list_fault-fault-requires : goal.reversed_list_fault-fault-requires
+reversed_list_fault-fault-requires c = record { good_side = c.requires.good_side; v_lt_n = (omega arith, c.requires.n_bound) }
+
+pub returns-then-fault-ne0 : goal.returns-then-fault-ne0
+returns-then-fault-ne0 c = below-stop c.loop-v.invariant (omega arith) (rw c.neighbours.ensures at c.reversed_list_fault-fault.ensures) c.if-fault-ne0.true
+    ∙ lists-both c.args.store.now c.args.n c.args.side c.args.other
+
+pub loop-v-preserved : goal.loop-v-preserved
+loop-v-preserved c = below_next c.loop-v.invariant (omega arith) (rw c.neighbours.ensures at c.reversed_list_fault-fault.ensures) c.if-fault-ne0.false
+
+pub returns : goal.returns
+returns c = below_end c.loop-v.invariant (omega arith) ∙ lists-both c.args.store.now c.args.n c.args.side c.args.other

@@ -1,0 +1,32 @@
+-- `store_reverse::block_fault` meets its contract: the entries before j have their reverses. Assumes nothing.
+use Prim.Native.Nat.{ℕ, ◌-◌, ◌%◌}
+use native.Mathlib.Omega.{arith}
+use lib.ListN.{length, get_or}
+use Rattle.adjacency.specs.Inner.Side.{list_on}
+use Rattle.adjacency.specs.Inner.Portion.{member}
+use Rattle.store_reverse.specs.Inner.Check.{reverse}
+use Rattle.store_reverse.proofs.Loops.{AllBelow, below-start, below_next, below-stop, below_end}
+use Rattle.store_reverse.proofs.block_fault.Goals as goal
+
+pub loop-j-init : goal.loop-j-init
+loop-j-init c = below-start
+
+pub bounds-begun-j : goal.bounds-begun-j
+bounds-begun-j c = omega (arith, c.requires.2.size)
+
+pub overflow_sub-begun : goal.overflow_sub-begun
+overflow_sub-begun c = omega (arith, c.requires.2.vertex c.loop-j.j (omega arith))
+
+pub reverse_fault-fault-requires : goal.reverse_fault-fault-requires
+reverse_fault-fault-requires c = let h = c.requires in
+    let v = h.2.vertex c.loop-j.j (omega arith) in
+    (h.0, omega (arith, v), h.1, h.2.fits c.loop-j.j (omega arith))
+
+pub returns-then-fault-ne0 : goal.returns-then-fault-ne0
+returns-then-fault-ne0 c = below-stop c.loop-j.invariant (omega arith) c.reverse_fault-fault.ensures c.if-fault-ne0.true
+
+pub loop-j-preserved : goal.loop-j-preserved
+loop-j-preserved c = below_next c.loop-j.invariant (omega arith) c.reverse_fault-fault.ensures c.if-fault-ne0.false
+
+pub returns : goal.returns
+returns c = below_end c.loop-j.invariant (omega arith)

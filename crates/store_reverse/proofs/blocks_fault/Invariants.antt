@@ -1,0 +1,14 @@
+-- `store_reverse::blocks_fault` meets its contract: the entries of the blocks before `base` have their reverses. Assumes nothing.
+use mathlib.Core.Path.{◌≡◌, sym, ◌∙◌, ap}
+use Prim.Native.Nat.{◌+◌, ◌-◌}
+use native.Mathlib.Omega.{arith}
+use lib.ListN.{length}
+use Rattle.store_reverse.specs.Inner.Begun.{Flat}
+use Rattle.store_reverse.proofs.Reverses.{Tested, tested-none, block-begins, block-fits, block-refuses, tested-more, tested-all, length-begun, few-begun}
+use Rattle.store_reverse.proofs.blocks_fault.Given as goal
+
+abbrev pub invariant-loop-base : goal.invariant-loop-base
+invariant-loop-base l = (length l.begun ≡ 1024) × ((f : Flat l.store l.n l.other l.starts l.entries) → Tested f l.next l.base)
+
+abbrev pub decreases-loop-base : goal.decreases-loop-base
+decreases-loop-base l = length l.entries + 1024 - l.base
