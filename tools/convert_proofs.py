@@ -32,6 +32,11 @@ class Names:
         self.loops = data["loops"]
         self.changed = data["changed"]
         self.pre = data["pre"]
+        self.clauses = {p[0]: (c or {}).get("fields") or [] for p, c in zip(data["places"], data["clauses"])}
+        self.args = {}
+        for old, new in data["args"] or []:
+            if old.startswith(".args "):
+                self.args[old.split(".")[-1]] = new.split(".")[-1]
         self.asked = {plain(k): v for k, v in data["asked"].items()} if data["asked"] else {}
 
     def step(self, place, word):
@@ -40,19 +45,19 @@ class Names:
             got = self.named(place, plain(it).lower())
             if got[0] is not None:
                 return got
-        return None, None
+        return None, None, None
 
     def named(self, place, want):
         at = place
         while at:
             p = self.places[at]
             if plain(p[2][0]).lower() == want:
-                return p[2][1], p[3]
+                return p[2][1], p[3], self.clauses[p[0]]
             at = p[1]
         for p in self.places.values():
             if plain(p[2][0]).lower() == want:
-                return p[2][1], p[3]
-        return None, None
+                return p[2][1], p[3], self.clauses[p[0]]
+        return None, None, None
 
 
 def by_position(fields, names):
@@ -71,7 +76,7 @@ class Turner:
     def __init__(self, names, where, said, shorts):
         self.names, self.where, self.said, self.shorts = names, where, said, shorts
         self.aliases = {"c"}
-        self.of_requires = set()
+        self.of_requires = {}
 
     def left(self, what):
         self.said.append(f"left: {self.where}: {what}")
@@ -87,22 +92,34 @@ class Turner:
         if first in ("requires", "pre"):
             pre = self.names.pre
             tail = segs[1:]
-            if pre and pre.get("fields") and len(pre["fields"]) > 1:
+            if pre and pre.get("fields"):
                 got = by_position(tail, pre["fields"])
+                if got is None and not tail:
+                    return "(" + ", ".join("c.requires." + f for f in pre["fields"]) + ")"
                 if got is None:
                     self.left(f"requires.{'.'.join(tail)}")
                     got = tail
                 tail = got
             return ".".join(["c", "requires", *tail])
+        if first in ("args", "ranges") and len(segs) > 1:
+            return ".".join(["c", first, self.names.args.get(segs[1], segs[1]), *segs[2:]])
         if first in ("args", "ranges", "type_inv", "utf8"):
             return ".".join(["c", *segs])
         if first in ("well-formed", "well_formed"):
             return ".".join(["c", "type_inv", *segs[1:]])
-        new, callee = self.names.step(place, first)
+        new, callee, clauses = self.names.step(place, first)
         if new is None:
             self.left(f"no step {first} at {place}")
             return ".".join(["c", *segs])
         tail = segs[1:]
+        if tail and tail[0] == "ensures" and clauses:
+            got = by_position(tail[1:], clauses)
+            if got is None and len(tail) == 1:
+                return "(" + ", ".join(f"c.{new}.ensures.{f}" for f in clauses) + ")"
+            if got is None:
+                self.left(f"{new}.ensures.{'.'.join(tail[1:])}")
+                got = tail[1:]
+            tail = ["ensures", *got]
         if tail and tail[0] in ("new", "auto") and len(tail) > 1 and tail[1] in ("0", "1") and callee in self.names.params:
             params = self.names.params[callee]
             got = by_position(tail[1:], [*params, "the-rest"])
@@ -117,14 +134,14 @@ class Turner:
             return ""
 
         def drop_requires(m):
-            self.of_requires.add(m[1])
+            self.of_requires[m[1]] = m[2]
             return ""
 
         while True:
             alias = "|".join(map(re.escape, sorted(self.aliases, key=len, reverse=True)))
             new = re.sub(r"\blet (%s) = (?:%s)((?:\.before)*)\s+in\s+" % (WORD, alias), drop, text, count=1)
-            if new == text and self.names.pre and len(self.names.pre.get("fields") or []) > 1:
-                new = re.sub(r"\blet (%s) = (?:%s)((?:\.before)*)\.requires\s+in\s+" % (WORD, alias), drop_requires, text, count=1)
+            if new == text:
+                new = re.sub(r"\blet (%s) = (?:%s)((?:\.[\w'-]+)*\.(?:requires|ensures))\s+in\s+" % (WORD, alias), drop_requires, text, count=1)
             if new == text:
                 break
             text = new
@@ -132,7 +149,7 @@ class Turner:
         def turn(m):
             head, rest = m[1], m[2]
             if head in self.of_requires:
-                return self.path("c", ".requires" + rest, place)
+                return self.path("c", self.of_requires[head] + rest, place)
             if head in self.aliases:
                 got = self.path(head, rest, place)
                 return "c" if got is None else got
@@ -291,12 +308,44 @@ def convert(crate, path, names, said, module):
             got = names.needs.get(old) or names.needs.get(plain(m[1])) or names.needs.get(plain(name))
             new_of[name] = got
     # helpers that take a place
-    placed = {}
+    placed, inlined, at_places = {}, {}, set()
+    TYPES = {}
     for name in order:
         d = decls[name]
-        m = re.match(r"(?s)\((%s) : tie\.([\w-]+)(?: invariant-\S+| decreases-\S+|[^)])*\)\s*→\s*(.*)" % WORD, d["type"])
-        if m and plain(m[2]) in names.by_plain and len(d["clauses"]) == 1:
+        if d["clauses"] == [] and "abbrev" not in d["mods"] and False:
+            pass
+        m = re.match(r"(?s)tie\.([\w-]+)((?: (?:invariant|decreases)-[\w-]+)*)\s*→\s*(.*)", d["type"])
+        if m and len(d["clauses"]) == 1:
             c = re.match(r"(?s)(%s)\s+(\w+)\s*=\s*(.*)" % WORD, d["clauses"][0])
+            if c and m[3].startswith("tie."):
+                at_places.add(name)
+                continue
+            if c and plain(m[1]) in names.by_plain:
+                inlined[name] = (c[2], c[3], names.by_plain[plain(m[1])])
+                continue
+
+    def early(text):
+        """Without the functions from place to place."""
+        if at_places:
+            for _ in range(6):
+                text = re.sub(r"\((?:%s)\s+((?:%s)(?:\.before)*)\)" % ("|".join(map(re.escape, at_places)), WORD), r"\1", text)
+            text = re.sub(r"(?<![\w'.-])(?:%s)\s+((?:%s)(?:\.before)*)(?![\w'-])" % ("|".join(map(re.escape, at_places)), WORD), r"\1", text)
+        for n, (v, b, _) in inlined.items():
+            def put(m, v=v, b=b):
+                return "(" + re.sub(r"(?<![\w'.-])%s(?![\w'-])" % re.escape(v), m[1], b.strip()) + ")"
+            for _ in range(3):
+                text = re.sub(r"(?<![\w'.-])%s\s+((?:%s)(?:\.before)*)(?![\w'.-])" % (re.escape(n), WORD), put, text)
+        return text
+
+    for name in order:
+        d = decls[name]
+        if name in at_places or name in inlined:
+            continue
+        d["type"] = d["type"] if d["type"].startswith("tie.") else early(d["type"])
+        d["clauses"] = [early(x) for x in d["clauses"]]
+        m = re.match(r"(?s)\((%s) : tie\.([\w-]+)(?: (?:invariant|decreases)-[\w-]+)*\)\s*(?:→)?\s*(.*)" % WORD, d["type"])
+        if m and plain(m[2]) in names.by_plain and len(d["clauses"]) == 1:
+            c = re.match(r"(?s)(%s)\s+(\w+)((?:\s+[\w'{}-]+)*)\s*=\s*(.*)" % WORD, d["clauses"][0])
             if c:
                 place = names.by_plain[plain(m[2])]
                 t = Turner(names, where, said, shorts)
@@ -304,11 +353,12 @@ def convert(crate, path, names, said, module):
                 kind = t.body(m[3], place)
                 t = Turner(names, where, said, shorts)
                 t.aliases = {c[2]}
-                placed[name] = (kind.strip(), t.body(c[3], place).strip(), d["unfolding"], place)
+                more = f"λ {c[3].strip()}. " if c[3].strip() else ""
+                placed[name] = (kind.strip(), more + t.body(c[4], place).strip(), d["unfolding"], place)
     for name in order:
         d = decls[name]
         kind = d["type"]
-        if name in placed or name.endswith("_spec") or name.endswith("-spec"):
+        if name in placed or name in inlined or name in at_places or name.endswith("_spec") or name.endswith("-spec"):
             continue
         m = re.match(r"tie\.(invariant|decreases)-(loop\d*)", kind)
         if m or re.match(r"tie\.(InvT|MeasureT)", kind):
@@ -379,7 +429,7 @@ def convert(crate, path, names, said, module):
                             used.append(h2)
                             more = True
             body = t.body(body, place)
-            if TRIVIAL.match(body.strip()):
+            if TRIVIAL.match(body.strip()) and not d["unfolding"]:
                 continue
             lets, unfs = [], [d["unfolding"]] if d["unfolding"] else []
             for h in placed:
@@ -411,7 +461,8 @@ def convert(crate, path, names, said, module):
                 for u in unfs:
                     words += [w for w in u.split()[1:] if w not in words]
                 unf = "unfolding " + " ".join(words) + "\n"
-            answers.append((new, f"pub {new} : goal.{new}\n{unf}{new} c = {''.join(lets)}{body.strip()}\n"))
+            more = "".join(" " + a for a in args[1:] if a != "κs")
+            answers.append((new, f"pub {new} : goal.{new}\n{unf}{new} c{more} = {''.join(lets)}{body.strip()}\n"))
             continue
         # a lemma of the file's own
         helpers.append("\n".join([d["sig"]] + ([d["unfolding"]] if d["unfolding"] else []) + d["clauses"]) + "\n")

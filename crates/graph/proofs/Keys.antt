@@ -40,10 +40,10 @@ module _ (g : Graph) (w : WellFormed g) (d : Direction) (e : Edge) (t : fitting 
   fits = fitting-edge g.vertices e t
 
   pub near-in : near d e < g.vertices
-  near-in = elim d [ forward ↦ fits.source_in | backward ↦ fits.target_in ]
+  near-in = elim d as (λ k. near k e < g.vertices) [ forward ↦ fits.source_in | backward ↦ fits.target_in ]
 
   pub far-in : far d e < g.vertices
-  far-in = elim d [ forward ↦ fits.target_in | backward ↦ fits.source_in ]
+  far-in = elim d as (λ k. far k e < g.vertices) [ forward ↦ fits.target_in | backward ↦ fits.source_in ]
 
   -- An entry takes 24 bits, so that a key tells its near end and its entry.
   pub entry-fits : entry d e < 16777216

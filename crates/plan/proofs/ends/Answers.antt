@@ -6,4 +6,4 @@ use borrow.Author.Rules.{rules}
 use Rattle.plan.proofs.ends.Goals as goal
 
 pub returns : goal.returns
-returns c = in-or _ _ w ∙ ap₂ ◌||◌ (c.only.ensures w) (c.only-2.ensures w)
+returns c w = in-or _ _ w ∙ ap₂ ◌||◌ (c.only.ensures w) (c.only-2.ensures w)

@@ -50,7 +50,7 @@ next_place-at-requires c = let index : c.loop-i.i < max_operators = omega (arith
 
 pub loop-i-preserved : goal.loop-i-preserved
 loop-i-preserved c = let index : c.loop-i.i < max_operators = omega (arith, c.operator_count-count.ensures, field_lt c.args.file.now 0 5) in
-    (omega arith, copied_more _ c.loop-i.invariant.1 (index) c.field.ensures c.operand.ensures c.next_place-at.ensures.0 c.next_place-at.ensures.1)
+    (omega arith, copied_more _ c.loop-i.invariant.1 (index) c.field.ensures c.operand.ensures c.next_place-at.ensures.is c.next_place-at.ensures.near)
 
 pub returns : goal.returns
 returns c = let all : c.loop-i.i ≡ c.operator_count-count.result = omega arith in

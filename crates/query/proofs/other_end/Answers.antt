@@ -7,11 +7,11 @@ use borrow.Author.Rules.{rules}
 use Rattle.query.proofs.other_end.Goals as goal
 
 pub returns-then-e-v : goal.returns-then-e-v
-returns-then-e-v c = c.only.ensures w ∙ sym (from-source (as_edge c.args.e) c.args.v w (search))
+returns-then-e-v c w = c.only.ensures w ∙ sym (from-source (as_edge c.args.e) c.args.v w (search))
 
 pub returns-then-e-v-2 : goal.returns-then-e-v-2
-returns-then-e-v-2 c = c.only-then-e-v-2.ensures w
+returns-then-e-v-2 c w = c.only-then-e-v-2.ensures w
     ∙ sym (from-target (as_edge c.args.e) c.args.v w (search) (search))
 
 pub returns : goal.returns
-returns c = in-none w ∙ sym (from-neither (as_edge c.args.e) c.args.v w (search) (search))
+returns c w = in-none w ∙ sym (from-neither (as_edge c.args.e) c.args.v w (search) (search))

@@ -9,11 +9,11 @@ use Rattle.query.proofs.Masks.{in-none}
 use Rattle.query.proofs.pair_end.Goals as goal
 
 pub returns-then-other-v : goal.returns-then-other-v
-returns-then-other-v c = let a = c.args in
+returns-then-other-v c w = let a = c.args in
     let met : eqb a.other a.v ≡ true = eq-eqb a.other a.v (search rules) in
     c.only.ensures w ∙ eqb-sym w a.one ∙ sym (ap (λ (b : Bool). eqb a.one w && b) met ∙ and-true (eqb a.one w))
 
 pub returns : goal.returns
-returns c = let a = c.args in
+returns c w = let a = c.args in
     let missed : eqb a.other a.v ≡ false = ne_eqb a.other a.v (search rules) in
     in-none w ∙ sym (ap (λ (b : Bool). eqb a.one w && b) missed ∙ and-false (eqb a.one w))

@@ -16,10 +16,9 @@ answer s b = struct_of (cond b (query_of s) no_query)
 
 pub returns-then-refusal-ne0 : goal.returns-then-refusal-ne0
 unfolding read_answer
-returns-then-refusal-ne0 c = let refused = c.query_fault-refusal.ensures in
-    λ k. record {
-      refusal = refused k;
-      query = (c.none.ensures ∙ ap (answer c.args.file.now) (sym (ne_eqb _ 0 (λ z. c.if-refusal-ne0.true (refused ∙ z))))) k;
+returns-then-refusal-ne0 c = λ k. record {
+      refusal = c.query_fault-refusal.ensures k;
+      query = (c.none.ensures ∙ ap (answer c.args.file.now) (sym (ne_eqb _ 0 (λ z. c.if-refusal-ne0.true (c.query_fault-refusal.ensures ∙ z))))) k;
     }
 
 pub query_of-requires : goal.query_of-requires

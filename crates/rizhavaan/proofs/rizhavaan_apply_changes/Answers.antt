@@ -5,5 +5,4 @@ use Rattle.changes.proofs.Loaded.{loads-edited}
 use Rattle.rizhavaan.proofs.rizhavaan_apply_changes.Goals as goal
 
 pub returns : goal.returns
-returns c = let e = c.apply_changes-edited.ensures in
-    record { answer = sym e.0; words = e.1; loaded = loads-edited _ _ _ }
+returns c = record { answer = sym c.apply_changes-edited.ensures.answer; words = c.apply_changes-edited.ensures.words; loaded = loads-edited _ _ _ }

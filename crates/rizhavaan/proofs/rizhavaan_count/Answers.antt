@@ -4,4 +4,5 @@ use borrow.Author.Rules.{rules}
 use Rattle.rizhavaan.proofs.rizhavaan_count.Goals as goal
 
 pub returns : goal.returns
-returns c = let e = c.count-answer.ensures in (sym e.0, e.1)
+returns c = let all = (sym c.count-answer.ensures.answer, c.count-answer.ensures.1) in
+    record { answer = all.0; cleared = all.1.0; tells = all.1.1 }

@@ -4,4 +4,5 @@ use borrow.Author.Rules.{rules}
 use Rattle.rizhavaan.proofs.rizhavaan_draw_plan.Goals as goal
 
 pub returns : goal.returns
-returns c = let e = c.draw_plan-answer.ensures in (sym e.0, e.1)
+returns c = let all = (sym c.draw_plan-answer.ensures.answer, c.draw_plan-answer.ensures.1) in
+    record { answer = all.0; packed = all.1.0; checked = all.1.1 }

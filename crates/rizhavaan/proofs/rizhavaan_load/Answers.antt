@@ -4,4 +4,4 @@ use borrow.Author.Rules.{rules}
 use Rattle.rizhavaan.proofs.rizhavaan_load.Goals as goal
 
 pub returns : goal.returns
-returns c = let e = c.load-answer.ensures in record { answer = sym e.0; words = e.1 }
+returns c = record { answer = sym c.load-answer.ensures.answer; words = c.load-answer.ensures.words }

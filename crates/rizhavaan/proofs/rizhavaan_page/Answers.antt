@@ -4,4 +4,5 @@ use borrow.Author.Rules.{rules}
 use Rattle.rizhavaan.proofs.rizhavaan_page.Goals as goal
 
 pub returns : goal.returns
-returns c = let e = c.page-answer.ensures in (sym e.0, e.1)
+returns c = let all = (sym c.page-answer.ensures.answer, c.page-answer.ensures.1) in
+    record { answer = all.0; text = all.1.0; sheets = all.1.1 }

@@ -18,9 +18,8 @@ pub overflow_sub-begun : goal.overflow_sub-begun
 overflow_sub-begun c = omega (arith, c.requires.2.vertex c.loop-j.j (omega arith))
 
 pub reverse_fault-fault-requires : goal.reverse_fault-fault-requires
-reverse_fault-fault-requires c = let h = c.requires in
-    let v = h.2.vertex c.loop-j.j (omega arith) in
-    (h.0, omega (arith, v), h.1, h.2.fits c.loop-j.j (omega arith))
+reverse_fault-fault-requires c = let v = c.requires.2.vertex c.loop-j.j (omega arith) in
+    (c.requires.0, omega (arith, v), c.requires.1, c.requires.2.fits c.loop-j.j (omega arith))
 
 pub returns-then-fault-ne0 : goal.returns-then-fault-ne0
 returns-then-fault-ne0 c = below-stop c.loop-j.invariant (omega arith) c.reverse_fault-fault.ensures c.if-fault-ne0.true

@@ -16,15 +16,14 @@ lists_begun-requires c = let f = c.requires.0 in
 
 pub block_fault-fault-requires : goal.block_fault-fault-requires
 block_fault-fault-requires c = let f = c.requires.0 in
-    let q = c.lists_begun.ensures in
-    (f.good, omega (arith, f.few), block-fits f (c.loop-base.invariant.1 f) (omega arith) c.block.ensures q (ap length q ∙ length-begun _ _))
+    (f.good, omega (arith, f.few), block-fits f (c.loop-base.invariant.1 f) (omega arith) c.block.ensures c.lists_begun.ensures (ap length c.lists_begun.ensures ∙ length-begun _ _))
 
 pub returns-then-fault-ne0 : goal.returns-then-fault-ne0
 returns-then-fault-ne0 c = let f = c.requires.0 in
     block-refuses f (c.loop-base.invariant.1 f) (omega arith) c.block.ensures c.lists_begun.ensures c.block_fault-fault.ensures c.if-fault-ne0.true
 
 pub bounds-begun : goal.bounds-begun
-bounds-begun c = let q = c.lists_begun.ensures in omega (arith, ap length q ∙ length-begun _ _)
+bounds-begun c = omega (arith, ap length c.lists_begun.ensures ∙ length-begun _ _)
 
 pub overflow_cast-next : goal.overflow_cast-next
 overflow_cast-next c = let f = c.requires.0 in
@@ -34,8 +33,7 @@ pub overflow_add-base : goal.overflow_add-base
 overflow_add-base c = omega (arith, c.requires.0.countable)
 
 pub loop-base-preserved : goal.loop-base-preserved
-loop-base-preserved c = let q = c.lists_begun.ensures in
-    (ap length q ∙ length-begun _ _, λ f. tested-more f (c.loop-base.invariant.1 f) (omega arith) c.block.ensures q c.block_fault-fault.ensures c.if-fault-ne0.false)
+loop-base-preserved c = (ap length c.lists_begun.ensures ∙ length-begun _ _, λ f. tested-more f (c.loop-base.invariant.1 f) (omega arith) c.block.ensures c.lists_begun.ensures c.block_fault-fault.ensures c.if-fault-ne0.false)
 
 pub returns : goal.returns
 returns c = let f = c.requires.0 in tested-all f (c.loop-base.invariant.1 f) (omega arith)

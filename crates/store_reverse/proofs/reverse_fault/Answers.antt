@@ -6,11 +6,10 @@ use borrow.Author.Rules.{rules}
 use Rattle.store_reverse.proofs.reverse_fault.Goals as goal
 
 pub neighbours-list-requires : goal.neighbours-list-requires
-neighbours-list-requires c = let h = c.requires in h.0.within _ h.3.neighbour
+neighbours-list-requires c = c.requires.0.within _ c.requires.3.neighbour
 
 pub hinted_fault-requires : goal.hinted_fault-requires
-hinted_fault-requires c = let h = c.requires in
-    (rw c.neighbours-list.ensures (side-ascends h.0 _ h.3.neighbour), omega (arith, h.3.neighbour, h.2))
+hinted_fault-requires c = (rw c.neighbours-list.ensures (side-ascends c.requires.0 _ c.requires.3.neighbour), omega (arith, c.requires.3.neighbour, c.requires.2))
 
 pub returns-then-list-gt-FEW : goal.returns-then-list-gt-FEW
 returns-then-list-gt-FEW c = c.hinted_fault.ensures ∙ rw c.neighbours-list.ensures

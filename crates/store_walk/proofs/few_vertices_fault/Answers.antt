@@ -6,5 +6,4 @@ use borrow.Author.Rules.{rules}
 use Rattle.store_walk.proofs.few_vertices_fault.Goals as goal
 
 pub walk_fault-requires : goal.walk_fault-requires
-walk_fault-requires c = let h = c.requires in
-    record { both_rise = (h.0, tables-made 1024 1024 256 h.1 h.1 (record { blocks = 16; long = refl; fit = omega (arith, h.1) })); by_index = none_done 1024 h.1 }
+walk_fault-requires c = record { both_rise = (c.requires.0, tables-made 1024 1024 256 c.requires.1 c.requires.1 (record { blocks = 16; long = refl; fit = omega (arith, c.requires.1) })); by_index = none_done 1024 c.requires.1 }

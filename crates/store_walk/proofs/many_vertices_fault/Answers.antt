@@ -6,5 +6,4 @@ use borrow.Author.Rules.{rules}
 use Rattle.store_walk.proofs.many_vertices_fault.Goals as goal
 
 pub walk_fault-requires : goal.walk_fault-requires
-walk_fault-requires c = let h = c.requires in
-    record { both_rise = (h, tables-made 65535 65535 16384 h.few h.few (record { blocks = 1024; long = refl; fit = omega (arith, h.few) })); by_index = none_done 65535 h.few }
+walk_fault-requires c = record { both_rise = (c.requires, tables-made 65535 65535 16384 c.requires.few c.requires.few (record { blocks = 1024; long = refl; fit = omega (arith, c.requires.few) })); by_index = none_done 65535 c.requires.few }

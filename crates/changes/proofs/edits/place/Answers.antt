@@ -17,7 +17,6 @@ returns-then-x-list c = c.lower_bound-then-x-list.ensures
 
 pub returns : goal.returns
 returns c = let a = c.args in
-    let up = c.requires in
     c.walk_up.ensures
-    ∙ first_on a.list.now up 0 a.hint a.x (omega arith)
-    (omega (arith, below-first a.list.now up 0 a.x (a.hint - 1) (omega arith) (omega arith) (omega arith))) (omega arith)
+    ∙ first_on a.list.now c.requires 0 a.hint a.x (omega arith)
+    (omega (arith, below-first a.list.now c.requires 0 a.x (a.hint - 1) (omega arith) (omega arith) (omega arith))) (omega arith)

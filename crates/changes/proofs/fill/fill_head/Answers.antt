@@ -8,8 +8,7 @@ use Rattle.changes.proofs.fill.fill_head.Goals as goal
 
 pub copy-requires : goal.copy-requires
 copy-requires c = let a = c.args in
-    let p = c.requires in
-    (rw (rest_at a.old.now 2, length-drop) (omega (arith, p.there)), rw (rest_at a.store.now 2, length-drop) (omega (arith, p.room_there)))
+    (rw (rest_at a.old.now 2, length-drop) (omega (arith, c.requires.there)), rw (rest_at a.store.now 2, length-drop) (omega (arith, c.requires.room_there)))
 
 pub bounds-store-1 : goal.bounds-store-1
 bounds-store-1 c = rw length-set (omega arith)

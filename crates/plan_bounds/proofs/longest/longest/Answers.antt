@@ -14,10 +14,6 @@ use Rattle.adjacency.proofs.Accepted.{lookup-within}
 use Rattle.plan_bounds.proofs.Seeing.{lookup, portion-is, portion-in-list, longest-pass, longest-take, longest-all}
 use Rattle.plan_bounds.proofs.longest.longest.Goals as goal
 
-seen : (c : tie.After-portion-length invariant-loop decreases-loop) → let a = c.before.before.before.before.before.before.args in (d : Direction) → a.side ≡ side_in d a.store.now
-    → c.portion-length.result ≡ portion_length (graph_in a.store.now) d a.label c.before.before.before.before.loop.v
-seen c d e = c.portion-length.ensures d e
-
 pub loop-v-init : goal.loop-v-init
 unfolding range largest
 loop-v-init c = (omega arith, λ d e. refl)
@@ -40,16 +36,20 @@ portion_length-length-requires c = let at : let a = c.args in Lookup a.store.now
     at
 
 pub loop-v-preserved-then-most-length : goal.loop-v-preserved-then-most-length
-loop-v-preserved-then-most-length c = (
+loop-v-preserved-then-most-length c = let seen : let a = c.args in (d : Direction) → a.side ≡ side_in d a.store.now
+    → c.portion_length-length.result ≡ portion_length (graph_in a.store.now) d a.label c.loop-v.v = λ d e. c.portion_length-length.ensures d e in
+    (
       search rules,
-      λ d e. longest-take _ _ _ _ (c.loop-v.invariant.1 d e) (seen c d e) c.if-most-length.true,
+      λ d e. longest-take _ _ _ _ (c.loop-v.invariant.1 d e) (seen d e) c.if-most-length.true,
     )
 
 pub loop-v-preserved : goal.loop-v-preserved
 loop-v-preserved c = let at : let a = c.args in Lookup a.store.now a.n a.side c.loop-v.v = lookup _ _ _ c.requires.0 _ c.loop-v-test.true in
+    let seen : let a = c.args in (d : Direction) → a.side ≡ side_in d a.store.now
+    → c.portion_length-length.result ≡ portion_length (graph_in a.store.now) d a.label c.loop-v.v = λ d e. c.portion_length-length.ensures d e in
     (
       search rules,
-      λ d e. longest-pass _ _ _ (c.loop-v.invariant.1 d e) (rw (seen c d e) at c.if-most-length.false),
+      λ d e. longest-pass _ _ _ (c.loop-v.invariant.1 d e) (rw (seen d e) at c.if-most-length.false),
     )
 
 pub returns : goal.returns

@@ -18,14 +18,6 @@ use Rattle.plan_bounds.specs.Inner.Held.{Seen}
 use Rattle.plan_bounds.proofs.Seeing.{lengths_of, lengths_none, lengths-skip, lengths-more, seen_all}
 use Rattle.plan_bounds.proofs.longest.of_edges.Goals as goal
 
-out : (c : tie.After-joins invariant-loop decreases-loop) → c.joins.result ≡ 0 → let l = c.before.before.before.before in let a = l.before.before.before.before.args in
-    between a.v (in_mask a.set) (edge_of a.q l.loop.i) ≡ false
-out c e = sym (runs c) ∙ bit-none _ c.joins.ensures e
-
-into : (c : tie.After-joins invariant-loop decreases-loop) → (c.joins.result ≡ 0 → ⊥) → let l = c.before.before.before.before in let a = l.before.before.before.before.args in
-    between a.v (in_mask a.set) (edge_of a.q l.loop.i) ≡ true
-into c e = sym (runs c) ∙ bit-some _ c.joins.ensures e
-
 pub of_store-g-requires : goal.of_store-g-requires
 of_store-g-requires c = (store-counts c.args.store.now c.requires.1).0
 
@@ -47,9 +39,14 @@ pub joins-requires : goal.joins-requires
 joins-requires c = edge-ends c.args.q c.loop-i.i c.loop-i-test.true c.edge-e.result c.edge-e.ensures c.requires.0.held
 
 pub loop-i-preserved-then-joins-eq0 : goal.loop-i-preserved-then-joins-eq0
-loop-i-preserved-then-joins-eq0 c = let a = c.args in (
+loop-i-preserved-then-joins-eq0 c = let runs : let a = c.args in
+    between a.v (in_mask a.set) (as_edge c.edge-e.result) ≡ between a.v (in_mask a.set) (edge_of a.q c.loop-i.i) = let a = c.args in
+    ap (between a.v (in_mask a.set)) (edge-read a.q c.loop-i.i c.edge-e.result c.loop-i-test.true c.edge-e.ensures) in
+    let out : c.joins.result ≡ 0 → let a = c.args in
+    between a.v (in_mask a.set) (edge_of a.q c.loop-i.i) ≡ false = λ e. sym (runs) ∙ bit-none _ c.joins.ensures e in
+    let a = c.args in (
       search rules,
-      rw (lengths-skip (graph_in a.store.now) a.q a.v (in_mask a.set) c.loop-i.i (out c c.if-joins-eq0.true)) c.loop-i.invariant.1,
+      rw (lengths-skip (graph_in a.store.now) a.q a.v (in_mask a.set) c.loop-i.i (out c.if-joins-eq0.true)) c.loop-i.invariant.1,
       omega arith,
       omega arith,
     )
@@ -65,11 +62,16 @@ with-seen-requires c = let few = c.requires.0.held.edges in
     (omega (arith, few, c.loop-i.invariant.2, c.loop-i-test.true), omega (arith, few, c.loop-i.invariant.3, c.loop-i-test.true), c.longest_for.ensures.1)
 
 pub loop-i-preserved : goal.loop-i-preserved
-loop-i-preserved c = let a = c.args in
+loop-i-preserved c = let runs : let a = c.args in
+    between a.v (in_mask a.set) (as_edge c.edge-e.result) ≡ between a.v (in_mask a.set) (edge_of a.q c.loop-i.i) = let a = c.args in
+    ap (between a.v (in_mask a.set)) (edge-read a.q c.loop-i.i c.edge-e.result c.loop-i-test.true c.edge-e.ensures) in
+    let into : (c.joins.result ≡ 0 → ⊥) → let a = c.args in
+    between a.v (in_mask a.set) (edge_of a.q c.loop-i.i) ≡ true = λ e. sym (runs) ∙ bit-some _ c.joins.ensures e in
+    let a = c.args in
     let same = edge-read a.q c.loop-i.i c.edge-e.result c.loop-i-test.true c.edge-e.ensures in (
       omega (arith, c.loop-i-test.true),
       rw (
-        lengths-more (graph_in a.store.now) a.q a.v (in_mask a.set) c.loop-i.i (into c c.if-joins-eq0.false),
+        lengths-more (graph_in a.store.now) a.q a.v (in_mask a.set) c.loop-i.i (into c.if-joins-eq0.false),
         ← (c.longest_for.ensures.0 ∙ ap (longest_for (graph_in a.store.now) a.v) same),
       )
           (c.with-seen.ensures.0 _ c.loop-i.invariant.1),

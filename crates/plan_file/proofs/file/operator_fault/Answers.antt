@@ -20,14 +20,14 @@ pub returns-then-file-bytes_for-2 : goal.returns-then-file-bytes_for-2
 returns-then-file-bytes_for-2 c = rw (
       passes 12 _ _ (bits-there _ _ (rw c.bytes_for.ensures at c.if-file-bytes_for.false)),
       passes 14 _ _ (ne_eqb _ 3 (rw c.field-kind.ensures at c.if-kind-eq-NO_KIND.false)),
-      stops 11 _ _ (bits-lack _ _ (rw (c.bytes_for-2.ensures, c.next_place.ensures.0) at c.if-file-bytes_for-2.true)),
+      stops 11 _ _ (bits-lack _ _ (rw (c.bytes_for-2.ensures, c.next_place.ensures.is) at c.if-file-bytes_for-2.true)),
     )
 
 pub returns : goal.returns
 returns c = rw (
       passes 12 _ _ (bits-there _ _ (rw c.bytes_for.ensures at c.if-file-bytes_for.false)),
       passes 14 _ _ (ne_eqb _ 3 (rw c.field-kind.ensures at c.if-kind-eq-NO_KIND.false)),
-      passes 12 _ _ (bits-there _ _ (rw (c.bytes_for-2.ensures, c.next_place.ensures.0) at c.if-file-bytes_for-2.false)),
+      passes 12 _ _ (bits-there _ _ (rw (c.bytes_for-2.ensures, c.next_place.ensures.is) at c.if-file-bytes_for-2.false)),
       length-replicate c.args.m,
       ← c.operand.ensures,
       ← c.field-kind.ensures,

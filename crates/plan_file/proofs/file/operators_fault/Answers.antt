@@ -25,7 +25,7 @@ next_place-at-requires c = (
     )
 
 pub loop-i-preserved : goal.loop-i-preserved
-loop-i-preserved c = (omega arith, passed-more _ _ _ _ _ c.loop-i.invariant.1 (sym c.operator_fault-fault.ensures ∙ c.if-fault-ne0.false) c.next_place-at.ensures.0)
+loop-i-preserved c = (omega arith, passed-more _ _ _ _ _ c.loop-i.invariant.1 (sym c.operator_fault-fault.ensures ∙ c.if-fault-ne0.false) c.next_place-at.ensures.is)
 
 pub end_fault-requires : goal.end_fault-requires
 end_fault-requires c = (omega (arith, c.loop-i.invariant.1.near), c.loop-i.invariant.1.there)

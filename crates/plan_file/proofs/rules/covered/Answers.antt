@@ -17,15 +17,14 @@ use borrow.Author.Rules.{rules}
 use Rattle.plan_file.proofs.rules.covered.Goals as goal
 
 pub edge-requires : goal.edge-requires
-edge-requires c = let pre = c.requires in (named-edge _ _ (rw c.o-1.given.1 at pre.1), pre.0.edges)
+edge-requires c = (named-edge _ _ (rw c.o-1.given.1 at c.requires.1), c.requires.0.edges)
 
 pub ends-requires : goal.ends-requires
-ends-requires c = let pre = c.requires in
-    let named = named-edge _ _ (rw c.o-1.given.1 at pre.1) in
-    rw c.edge.ensures (edge-source _ pre.0 _ named, edge-target _ pre.0 _ named)
+ends-requires c = let named = named-edge _ _ (rw c.o-1.given.1 at c.requires.1) in
+    rw c.edge.ensures (edge-source _ c.requires.0 _ named, edge-target _ c.requires.0 _ named)
 
 pub only-requires : goal.only-requires
-only-requires c = let pre = c.requires in named-vertex _ pre.0 _ (rw c.o-in-Extend-1.given.1 at pre.1)
+only-requires c = named-vertex _ c.requires.0 _ (rw c.o-in-Extend-1.given.1 at c.requires.1)
 
 pub below_top-requires : goal.below_top-requires
 below_top-requires c = let one-there : 0 < length (masks_in c.args.pile) = extend-asks _ _ (masks_in c.args.pile) (rw c.o-in-Extend-1.given.1 at c.requires.3) in

@@ -17,57 +17,60 @@ use Rattle.plan.specs.Check.{joinable}
 use Rattle.plan.proofs.Sets.{any-mask}
 use Rattle.plan_file.proofs.rules.join_fault.Goals as goal
 
-meets : (c : tie.After-below) (m : ℕ) (t : VertexSet) → MaskOf m t
-    → any t (range (query_in c.before.args.q).vertices) ≡ not (eqb (bit_and c.below.result m) 0)
-unfolding query_in
-meets c m t h = any-mask 32 c.below.result m c.before.args.q.vertices t (search rules) c.below.ensures h
-
 pub below-all-requires : goal.below-all-requires
 below-all-requires c = omega (arith, c.requires.vertices)
 
 pub returns-then-all-b-eq0 : goal.returns-then-all-b-eq0
-unfolding joinable
-returns-then-all-b-eq0 c = let shared : let a = c.args in
-    any (λ (w : ℕ). in_mask a.b w && in_mask a.p w) (range (query_in a.q).vertices) ≡ not (eqb (bit_and c.below-all.result (bit_and a.b a.p)) 0) = meets c _ _ (in_and c.args.b c.args.p) in
+unfolding joinable query_in
+returns-then-all-b-eq0 c = let meets : (m : ℕ) (t : VertexSet) → MaskOf m t
+    → any t (range (query_in c.args.q).vertices) ≡ not (eqb (bit_and c.below-all.result m) 0) = λ m t h. any-mask 32 c.below-all.result m c.args.q.vertices t (search rules) c.below-all.ensures h in
+    let shared : let a = c.args in
+    any (λ (w : ℕ). in_mask a.b w && in_mask a.p w) (range (query_in a.q).vertices) ≡ not (eqb (bit_and c.below-all.result (bit_and a.b a.p)) 0) = meets _ _ (in_and c.args.b c.args.p) in
     rw (shared, c.if-all-b-eq0.true)
 
 pub minus-requires : goal.minus-requires
 minus-requires c = tt
 
 pub returns-then-all-minus-eq0 : goal.returns-then-all-minus-eq0
-unfolding joinable
-returns-then-all-minus-eq0 c = let shared : let a = c.args in
-    any (λ (w : ℕ). in_mask a.b w && in_mask a.p w) (range (query_in a.q).vertices) ≡ not (eqb (bit_and c.below-all.result (bit_and a.b a.p)) 0) = meets c _ _ (in_and c.args.b c.args.p) in
+unfolding joinable query_in
+returns-then-all-minus-eq0 c = let meets : (m : ℕ) (t : VertexSet) → MaskOf m t
+    → any t (range (query_in c.args.q).vertices) ≡ not (eqb (bit_and c.below-all.result m) 0) = λ m t h. any-mask 32 c.below-all.result m c.args.q.vertices t (search rules) c.below-all.ensures h in
+    let shared : let a = c.args in
+    any (λ (w : ℕ). in_mask a.b w && in_mask a.p w) (range (query_in a.q).vertices) ≡ not (eqb (bit_and c.below-all.result (bit_and a.b a.p)) 0) = meets _ _ (in_and c.args.b c.args.p) in
     let build-only : let a = c.args in
     any (λ (w : ℕ). in_mask a.b w && not (in_mask a.p w)) (range (query_in a.q).vertices)
-    ≡ not (eqb (bit_and c.below-all.result c.minus.result) 0) = meets c _ _ c.minus.ensures in
+    ≡ not (eqb (bit_and c.below-all.result c.minus.result) 0) = meets _ _ c.minus.ensures in
     rw (shared, ne_eqb _ 0 c.if-all-b-eq0.false, build-only, c.if-all-minus-eq0.true)
 
 pub minus-requires-2 : goal.minus-requires-2
 minus-requires-2 c = tt
 
 pub returns-then-all-minus-eq0-2 : goal.returns-then-all-minus-eq0-2
-unfolding joinable
-returns-then-all-minus-eq0-2 c = let shared : let a = c.args in
-    any (λ (w : ℕ). in_mask a.b w && in_mask a.p w) (range (query_in a.q).vertices) ≡ not (eqb (bit_and c.below-all.result (bit_and a.b a.p)) 0) = meets c _ _ (in_and c.args.b c.args.p) in
+unfolding joinable query_in
+returns-then-all-minus-eq0-2 c = let meets : (m : ℕ) (t : VertexSet) → MaskOf m t
+    → any t (range (query_in c.args.q).vertices) ≡ not (eqb (bit_and c.below-all.result m) 0) = λ m t h. any-mask 32 c.below-all.result m c.args.q.vertices t (search rules) c.below-all.ensures h in
+    let shared : let a = c.args in
+    any (λ (w : ℕ). in_mask a.b w && in_mask a.p w) (range (query_in a.q).vertices) ≡ not (eqb (bit_and c.below-all.result (bit_and a.b a.p)) 0) = meets _ _ (in_and c.args.b c.args.p) in
     let build-only : let a = c.args in
     any (λ (w : ℕ). in_mask a.b w && not (in_mask a.p w)) (range (query_in a.q).vertices)
-    ≡ not (eqb (bit_and c.below-all.result c.minus.result) 0) = meets c _ _ c.minus.ensures in
+    ≡ not (eqb (bit_and c.below-all.result c.minus.result) 0) = meets _ _ c.minus.ensures in
     let probe-only : let a = c.args in
     any (λ (w : ℕ). in_mask a.p w && not (in_mask a.b w)) (range (query_in a.q).vertices)
-    ≡ not (eqb (bit_and c.below-all.result c.minus-2.result) 0) = meets c _ _ c.minus-2.ensures in
+    ≡ not (eqb (bit_and c.below-all.result c.minus-2.result) 0) = meets _ _ c.minus-2.ensures in
     rw (shared, ne_eqb _ 0 c.if-all-b-eq0.false, build-only, ne_eqb _ 0 c.if-all-minus-eq0.false, probe-only, c.if-all-minus-eq0-2.true)
 
 pub returns : goal.returns
-unfolding joinable
-returns c = let shared : let a = c.args in
-    any (λ (w : ℕ). in_mask a.b w && in_mask a.p w) (range (query_in a.q).vertices) ≡ not (eqb (bit_and c.below-all.result (bit_and a.b a.p)) 0) = meets c _ _ (in_and c.args.b c.args.p) in
+unfolding joinable query_in
+returns c = let meets : (m : ℕ) (t : VertexSet) → MaskOf m t
+    → any t (range (query_in c.args.q).vertices) ≡ not (eqb (bit_and c.below-all.result m) 0) = λ m t h. any-mask 32 c.below-all.result m c.args.q.vertices t (search rules) c.below-all.ensures h in
+    let shared : let a = c.args in
+    any (λ (w : ℕ). in_mask a.b w && in_mask a.p w) (range (query_in a.q).vertices) ≡ not (eqb (bit_and c.below-all.result (bit_and a.b a.p)) 0) = meets _ _ (in_and c.args.b c.args.p) in
     let build-only : let a = c.args in
     any (λ (w : ℕ). in_mask a.b w && not (in_mask a.p w)) (range (query_in a.q).vertices)
-    ≡ not (eqb (bit_and c.below-all.result c.minus.result) 0) = meets c _ _ c.minus.ensures in
+    ≡ not (eqb (bit_and c.below-all.result c.minus.result) 0) = meets _ _ c.minus.ensures in
     let probe-only : let a = c.args in
     any (λ (w : ℕ). in_mask a.p w && not (in_mask a.b w)) (range (query_in a.q).vertices)
-    ≡ not (eqb (bit_and c.below-all.result c.minus-2.result) 0) = meets c _ _ c.minus-2.ensures in
+    ≡ not (eqb (bit_and c.below-all.result c.minus-2.result) 0) = meets _ _ c.minus-2.ensures in
     rw (
       shared,
       ne_eqb _ 0 c.if-all-b-eq0.false,

@@ -20,8 +20,7 @@ pub edge-requires : goal.edge-requires
 edge-requires c = (c.loop-i-test.true, c.requires.edges)
 
 pub lost-requires : goal.lost-requires
-lost-requires c = let held = c.requires in
-    rw c.edge.ensures (edge-source _ held _ c.loop-i-test.true, edge-target _ held _ c.loop-i-test.true)
+lost-requires c = rw c.edge.ensures (edge-source _ c.requires _ c.loop-i-test.true, edge-target _ c.requires _ c.loop-i-test.true)
 
 pub returns-then-lost : goal.returns-then-lost
 returns-then-lost c = let a = c.args in

@@ -17,8 +17,7 @@ pub below_top-requires : goal.below_top-requires
 below_top-requires c = (c.if-pile-lt1.false, c.requires.2)
 
 pub extend_fault-requires : goal.extend_fault-requires
-extend_fault-requires c = let pre = c.requires in
-    (pre.0, named-vertex _ pre.0 _ (rw c.o-1.given.1 at pre.1))
+extend_fault-requires c = (c.requires.0, named-vertex _ c.requires.0 _ (rw c.o-1.given.1 at c.requires.1))
 
 pub returns-then-pile-lt2 : goal.returns-then-pile-lt2
 returns-then-pile-lt2 c = let a = c.args in

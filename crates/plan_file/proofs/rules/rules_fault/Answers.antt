@@ -25,8 +25,7 @@ operator-o-requires c = omega (arith, c.loop-i-test.true, c.requires.1)
 
 pub rule_fault-fault-requires : goal.rule_fault-fault-requires
 rule_fault-fault-requires c = let named : has (query_in c.args.q) (operator_is c.operator-o.result) ≡ true = named-at _ _ c.loop-i.i _ c.requires.2 c.loop-i-test.true c.operator-o.ensures in
-    let pre = c.requires in
-    (pre.0, named, omega (arith, c.loop-i.invariant.1, c.loop-i-test.true, pre.1))
+    (c.requires.0, named, omega (arith, c.loop-i.invariant.1, c.loop-i-test.true, c.requires.1))
 
 pub returns-then-fault-ne0 : goal.returns-then-fault-ne0
 returns-then-fault-ne0 c = c.rule_fault-fault.ensures
@@ -36,8 +35,7 @@ returns-then-fault-ne0 c = c.rule_fault-fault.ensures
 
 pub covered-pile-requires : goal.covered-pile-requires
 covered-pile-requires c = let named : has (query_in c.args.q) (operator_is c.operator-o.result) ≡ true = named-at _ _ c.loop-i.i _ c.requires.2 c.loop-i-test.true c.operator-o.ensures in
-    let pre = c.requires in
-    (pre.0, named, omega (arith, c.loop-i.invariant.1, c.loop-i-test.true, pre.1), sym c.rule_fault-fault.ensures ∙ c.if-fault-ne0.false)
+    (c.requires.0, named, omega (arith, c.loop-i.invariant.1, c.loop-i-test.true, c.requires.1), sym c.rule_fault-fault.ensures ∙ c.if-fault-ne0.false)
 
 pub overflow_add-i : goal.overflow_add-i
 overflow_add-i c = omega (arith, c.loop-i-test.true)
@@ -55,8 +53,7 @@ loop-i-preserved c = (
     )
 
 pub end_fault-requires : goal.end_fault-requires
-end_fault-requires c = let pre = c.requires in
-    (pre.0, omega (arith, c.loop-i.invariant.0, c.loop-i.invariant.1, pre.1))
+end_fault-requires c = (c.requires.0, omega (arith, c.loop-i.invariant.0, c.loop-i.invariant.1, c.requires.1))
 
 pub returns : goal.returns
 returns c = c.end_fault.ensures ∙ sym (c.loop-i.invariant.2 ∙ rules-done _ _ _ c.loop-i.i c.loop-i-test.false)

@@ -13,7 +13,7 @@ use Rattle.packed.proofs.Written.{length-written}
 use Rattle.planner.proofs.pack.put_extend.Goals as goal
 
 pub returns : goal.returns
-returns c = let long : length c.args.plan.now ≡ length old = ap length e ∙ length-written old bits in
+returns c old bits e l = let long : length c.args.plan.now ≡ length old = ap length e ∙ length-written old bits in
     let two : length (bits ++ bits_of 2 1) ≡ c.args.at + 2 = length-append bits (bits_of 2 1) ∙ omega (arith, length-bitsOf 2 1) in
     let kind : c.put_field.new.s ≡ written old (bits ++ bits_of 2 1) = 
     c.put_field.ensures ∙ written-more old bits 2 1 (omega arith) _ c.args.at e (sym l) in

@@ -59,6 +59,6 @@ loop-i-preserved c = let l = c.loop-i in
     )
 
 pub returns : goal.returns
-returns c = c.loop-i.invariant.4 old bits e k
+returns c old bits e k = c.loop-i.invariant.4 old bits e k
     ∙ ap (λ (l : List ℕ). written old (bits ++ l))
     (bits_to-all (extends_from (query_in c.args.q) (in_mask c.args.set) (c.args.q.vertices - 2)) c.loop-i.i (rw length-extends (omega arith)))

@@ -31,6 +31,6 @@ loop-i-preserved c = let a = c.args in
     )
 
 pub returns : goal.returns
-returns c = let a = c.args in
+returns c w = let a = c.args in
     let all : c.loop-i.i ≡ a.self.edges = omega arith in
     c.loop-i.invariant.1 w ∙ ap (λ (i : ℕ). by_first a.self a.v i w) all ∙ by_all a.self a.v w

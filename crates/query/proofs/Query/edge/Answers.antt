@@ -6,4 +6,4 @@ use Rattle.query.proofs.Structs.{edge_in_lem}
 use Rattle.query.proofs.Query.edge.Goals as goal
 
 pub returns : goal.returns
-returns c = sym (ap edge_struct (edge_in_lem c.args.t1 c.args.i (search rules)))
+returns c = sym (ap edge_struct (edge_in_lem c.args.self c.args.i (search rules)))

@@ -10,7 +10,7 @@ use Rattle.query.proofs.Pairs.{by_pairs, pairs-none, pairs-more, high_of, all-hi
 use Rattle.query.proofs.Query.pair_highs.Goals as goal
 
 pub loop-i-init : goal.loop-i-init
-loop-i-init c = (omega arith, pairs-none (high_of c.args.v) c.args.t1)
+loop-i-init c = (omega arith, pairs-none (high_of c.args.v) c.args.self)
 
 pub pair_end-found-requires : goal.pair_end-found-requires
 pair_end-found-requires c = let i = c.loop-i.i in
@@ -24,6 +24,6 @@ loop-i-preserved c = let a = c.args in
     )
 
 pub returns : goal.returns
-returns c = let a = c.args in
+returns c w = let a = c.args in
     let all : c.loop-i.i ≡ a.t1.pairs = omega arith in
     c.loop-i.invariant.1 w ∙ ap (λ (i : ℕ). by_pairs (high_of a.v) a.t1 i w) all ∙ all-highs a.t1 a.v w

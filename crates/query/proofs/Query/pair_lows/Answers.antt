@@ -8,7 +8,7 @@ use Rattle.query.proofs.Pairs.{by_pairs, pairs-none, pairs-more, low_of, all-low
 use Rattle.query.proofs.Query.pair_lows.Goals as goal
 
 pub loop-i-init : goal.loop-i-init
-loop-i-init c = (omega arith, pairs-none (low_of c.args.v) c.args.t1)
+loop-i-init c = (omega arith, pairs-none (low_of c.args.v) c.args.self)
 
 pub pair_end-found-requires : goal.pair_end-found-requires
 pair_end-found-requires c = let i = c.loop-i.i in
@@ -22,6 +22,6 @@ loop-i-preserved c = let a = c.args in
     )
 
 pub returns : goal.returns
-returns c = let a = c.args in
+returns c w = let a = c.args in
     let all : c.loop-i.i ≡ a.t1.pairs = omega arith in
     c.loop-i.invariant.1 w ∙ ap (λ (i : ℕ). by_pairs (low_of a.v) a.t1 i w) all ∙ all-lows a.t1 a.v w

@@ -34,6 +34,6 @@ loop-w-preserved c = let a = c.args in
     )
 
 pub returns : goal.returns
-returns c = let a = c.args in
+returns c u = let a = c.args in
     let all : c.loop-w.w ≡ a.self.vertices = omega arith in
     c.loop-w.invariant.1 u ∙ ap (λ (n : ℕ). with_neighbours (query_in a.self) (in_mask a.set) n u) all

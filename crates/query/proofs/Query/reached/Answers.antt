@@ -24,6 +24,6 @@ loop-k-preserved c = (
 )
 
 pub returns : goal.returns
-returns c = let self = c.args.self in
+returns c w = let self = c.args.self in
     let all : c.loop-k.k ≡ self.vertices = omega arith in
     c.loop-k.invariant.1 w ∙ ap (λ (k : ℕ). among (reached (query_in self) k) w) all

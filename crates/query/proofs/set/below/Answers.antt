@@ -8,4 +8,4 @@ pub overflow_sub-result : goal.overflow_sub-result
 overflow_sub-result c = rw (shifted_one c.args.n c.requires) (pow_pos c.args.n)
 
 pub returns : goal.returns
-returns c = rw (shifted_one c.args.n c.requires) (in-below c.args.n w)
+returns c w = rw (shifted_one c.args.n c.requires) (in-below c.args.n w)

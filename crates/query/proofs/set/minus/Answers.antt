@@ -3,4 +3,4 @@ use Rattle.query.proofs.Masks.{in-minus}
 use Rattle.query.proofs.set.minus.Goals as goal
 
 pub returns : goal.returns
-returns c = in-minus c.args.a c.args.b w
+returns c w = in-minus c.args.a c.args.b w

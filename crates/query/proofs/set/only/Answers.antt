@@ -4,4 +4,4 @@ use borrow.Author.Rules.{rules}
 use Rattle.query.proofs.set.only.Goals as goal
 
 pub returns : goal.returns
-returns c = rw (shifted_one c.args.w c.requires) (in-only c.args.w w)
+returns c w = rw (shifted_one c.args.w c.requires) (in-only c.args.w w)

@@ -28,11 +28,10 @@ pub loop-i-preserved : goal.loop-i-preserved
 loop-i-preserved c = let a = c.args in
     let l = c.loop-i in
     let count = c.requires.0 in
-    let place = c.edge_start-at.ensures in
-    let none = sym (fault-here a.file.now a.n _ l.i count place l.least _ l.invariant.2 c.edge_fault-fault.ensures) ∙ c.if-fault-ne0.false in (
+    let none = sym (fault-here a.file.now a.n _ l.i count c.edge_start-at.ensures l.least _ l.invariant.2 c.edge_fault-fault.ensures) ∙ c.if-fault-ne0.false in (
       omega arith,
       edges-next a.file.now l.i l.invariant.1 none,
-      least-next a.file.now a.n _ l.i count place c.edge_key-least.result c.edge_key-least.ensures,
+      least-next a.file.now a.n _ l.i count c.edge_start-at.ensures c.edge_key-least.result c.edge_key-least.ensures,
     )
 
 pub returns : goal.returns

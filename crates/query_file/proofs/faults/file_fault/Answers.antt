@@ -36,8 +36,7 @@ pub returns-then-size-ne0 : goal.returns-then-size-ne0
 returns-then-size-ne0 c = let limits : c.limits_fault-limits.result ≡ refuse 8 (outside_limits c.args.file.now) = c.limits_fault-limits.ensures ∙ ap₂ limits_fault c.vertex_count-n.ensures c.edge_count-m.ensures in
     let within : outside_limits c.args.file.now ≡ false = refuse-zero 7 _ (sym (limits) ∙ c.if-limits-ne0.false) in
     let s = c.args.file.now in
-    let size = c.sizes_fault-size.ensures in
-    size ∙ sym (size-first s (search rules) (within) (λ z. c.if-size-ne0.true (size ∙ z)))
+    c.sizes_fault-size.ensures ∙ sym (size-first s (search rules) (within) (λ z. c.if-size-ne0.true (c.sizes_fault-size.ensures ∙ z)))
 
 pub days_fault-days-requires : goal.days_fault-days-requires
 days_fault-days-requires c = let limits : c.limits_fault-limits.result ≡ refuse 8 (outside_limits c.args.file.now) = c.limits_fault-limits.ensures ∙ ap₂ limits_fault c.vertex_count-n.ensures c.edge_count-m.ensures in

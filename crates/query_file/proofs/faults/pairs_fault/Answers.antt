@@ -26,11 +26,10 @@ pair_fault-fault-requires c = let few = at-most-pairs c.args.file.now in
 
 pub returns-then-fault-ne0 : goal.returns-then-fault-ne0
 returns-then-fault-ne0 c = let a = c.args in
-    let pre = c.requires in
     let l = c.loop-i in
     let s = a.file.now in
     let below : l.i < pair_count s = omega arith in
-    let here = pair-fault-here s a.n a.m _ l.i pre.0 pre.1 c.pair_start-at.ensures l.least _ l.invariant.2 c.pair_fault-fault.ensures in
+    let here = pair-fault-here s a.n a.m _ l.i c.requires.0 c.requires.1 c.pair_start-at.ensures l.least _ l.invariant.2 c.pair_fault-fault.ensures in
     here ∙ sym (pairs-stop s (pair_count s) l.i below l.invariant.1 (λ z. c.if-fault-ne0.true (here ∙ z)))
 
 pub overflow_add-least : goal.overflow_add-least
@@ -39,14 +38,12 @@ overflow_add-least c = let a = c.args in
 
 pub loop-i-preserved : goal.loop-i-preserved
 loop-i-preserved c = let a = c.args in
-    let pre = c.requires in
     let l = c.loop-i in
     let s = a.file.now in
-    let place = c.pair_start-at.ensures in
-    let here = pair-fault-here s a.n a.m _ l.i pre.0 pre.1 place l.least _ l.invariant.2 c.pair_fault-fault.ensures in (
+    let here = pair-fault-here s a.n a.m _ l.i c.requires.0 c.requires.1 c.pair_start-at.ensures l.least _ l.invariant.2 c.pair_fault-fault.ensures in (
       omega arith,
       pairs_next s l.i l.invariant.1 (sym here ∙ c.if-fault-ne0.false),
-      least-pair-next s a.n a.m _ l.i pre.0 pre.1 place c.pair_key-least.result c.pair_key-least.ensures,
+      least-pair-next s a.n a.m _ l.i c.requires.0 c.requires.1 c.pair_start-at.ensures c.pair_key-least.result c.pair_key-least.ensures,
     )
 
 pub returns : goal.returns

@@ -10,18 +10,15 @@ pub loop-i-init : goal.loop-i-init
 loop-i-init c = numbered-none _ _ c.requires.1
 
 pub slice_bounds-put_number-end : goal.slice_bounds-put_number-end
-slice_bounds-put_number-end c = let pre = c.requires in
-    omega (arith, numbered-kept _ _ c.loop-i.text c.loop-i.i pre.0 pre.2 c.loop-i.invariant)
+slice_bounds-put_number-end c = omega (arith, numbered-kept _ _ c.loop-i.text c.loop-i.i c.requires.0 c.requires.2 c.loop-i.invariant)
 
 pub put_number-requires : goal.put_number-requires
-put_number-requires c = let pre = c.requires in
-    asked _ _ (numbered-part _ _ c.loop-i.text c.loop-i.i pre.0 pre.2 c.loop-i.invariant (8 * c.loop-i.i + 8 - 8 * c.loop-i.i) (omega arith) (omega arith))
-    (fitting-at _ c.loop-i.i (omega arith) pre.2)
+put_number-requires c = asked _ _ (numbered-part _ _ c.loop-i.text c.loop-i.i c.requires.0 c.requires.2 c.loop-i.invariant (8 * c.loop-i.i + 8 - 8 * c.loop-i.i) (omega arith) (omega arith))
+    (fitting-at _ c.loop-i.i (omega arith) c.requires.2)
 
 pub loop-i-preserved : goal.loop-i-preserved
-loop-i-preserved c = let pre = c.requires in
-    numbered_next _ _ c.loop-i.text c.loop-i.i pre.0 pre.2 c.loop-i.invariant c.put_number.new.columns
+loop-i-preserved c = numbered_next _ _ c.loop-i.text c.loop-i.i c.requires.0 c.requires.2 c.loop-i.invariant c.put_number.new.columns
     (8 * c.loop-i.i + 8 - 8 * c.loop-i.i) (omega arith) (omega arith) c.put_number.ensures
 
 pub returns : goal.returns
-returns c = let pre = c.requires in numbered-all _ _ c.loop-i.text c.loop-i.i pre.0 pre.2 c.loop-i.invariant (omega arith)
+returns c = numbered-all _ _ c.loop-i.text c.loop-i.i c.requires.0 c.requires.2 c.loop-i.invariant (omega arith)

@@ -7,9 +7,9 @@ use Rattle.plan_bounds.proofs.pile.Pile.put.Goals as goal
 pub returns : goal.returns
 returns c = record {
       depth = refl;
-      sets = stack-put c.args.t1.depth c.args.taken _ _ c.requires.0 (search rules);
-      rows = stack-put c.args.t1.depth c.args.taken _ _ c.requires.0 (search rules);
-      needs = stack-put c.args.t1.depth c.args.taken _ _ c.requires.0 (search rules);
+      sets = stack-put c.args.self.depth c.args.taken _ _ c.requires.0 (search rules);
+      rows = stack-put c.args.self.depth c.args.taken _ _ c.requires.0 (search rules);
+      needs = stack-put c.args.self.depth c.args.taken _ _ c.requires.0 (search rules);
       costs = c.add.ensures;
       largest_is = c.larger.ensures;
     }

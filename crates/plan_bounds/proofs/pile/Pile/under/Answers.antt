@@ -6,7 +6,7 @@ use Rattle.plan_bounds.proofs.pile.Pile.under.Goals as goal
 
 pub returns : goal.returns
 returns c = record {
-      set = sym (get_or-stack c.args.under c.args.t1.depth _ c.requires.0);
-      rows = sym (get_or-stack c.args.under c.args.t1.depth _ c.requires.0);
-      need = sym (get_or-stack c.args.under c.args.t1.depth _ c.requires.0);
+      set = sym (get_or-stack c.args.under c.args.self.depth _ c.requires.0);
+      rows = sym (get_or-stack c.args.under c.args.self.depth _ c.requires.0);
+      need = sym (get_or-stack c.args.under c.args.self.depth _ c.requires.0);
     }

@@ -5,4 +5,4 @@ use borrow.Author.Rules.{rules}
 use Rattle.plan_file.proofs.rules.Pile.below_top.Goals as goal
 
 pub returns : goal.returns
-returns c = sym (get_or-stack c.args.under c.args.t1.depth _ c.requires.0)
+returns c = sym (get_or-stack c.args.under c.args.self.depth _ c.requires.0)
