@@ -1,16 +1,14 @@
 -- What is answered, refused or not, is what the definition says. Assumes nothing.
-use mathlib.Core.Path.{◌≡◌, refl, sym, ◌∙◌, ap}
+use mathlib.Core.Path.{◌≡◌, sym, ◌∙◌}
 use mathlib.Core.Bool.{true}
-use mathlib.Core.List.{List, []}
+use mathlib.Core.List.{List}
 use Prim.Native.Nat.{ℕ, ◌≤◌}
-use lib.ListN.{length}
-use borrow.Author.Tests.{eq-eqb, ne_eqb}
+use borrow.Author.Tests.{ne_eqb}
 use Rattle.lists.specs.Lists.{all}
-use Rattle.lists.specs.Refusal.{answered}
 use Rattle.lists.proofs.Maps.{length-image}
 use Rattle.lists.proofs.Faults.{first-cons, first_some, first-nil}
 use Rattle.graph.specs.Store.{graph_in, store_fault}
-use Rattle.query.specs.File.{query_of, query_fault}
+use Rattle.query.specs.File.{query_of}
 use Rattle.query.specs.Answer.{struct_of}
 use Rattle.query.specs.Inner.Struct.{query_in}
 use Rattle.query_file.proofs.Structs.{at-least-vertices, at-least-edges, file-struct, file-labels}
@@ -21,8 +19,7 @@ use Rattle.plan.specs.Inner.Struct.{plan_struct, operators_in}
 use Rattle.plan_file.proofs.Structs.{file-operators}
 use Rattle.plan_file.proofs.Accepted.{accepted}
 use Rattle.plan_order.specs.Inner.Counts.{Drawable}
-use Rattle.plan_bounds.specs.Bounds.{list_bound, need_bound, costs_bound, largest_bound}
-use Rattle.plan_bounds.specs.Answer.{given, bounds_fault, bounds_answer}
+use Rattle.plan_bounds.specs.Answer.{bounds_fault, bounds_answer}
 use Rattle.plan_bounds.specs.Inner.Held.{Numbers}
 use Rattle.plan_bounds.specs.declared.BoundsAnswer.{BoundsAnswer}
 

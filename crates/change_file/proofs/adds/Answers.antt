@@ -1,5 +1,4 @@
 -- `change_file::adds` meets its contract. Assumes nothing.
-use borrow.Author.Rules.{rules}
 use Rattle.packed.proofs.Laws.{field_lt}
 use Rattle.change_file.proofs.Reading.{adds-field}
 use Rattle.change_file.proofs.adds.Goals as goal

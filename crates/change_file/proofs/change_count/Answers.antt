@@ -1,6 +1,5 @@
 -- `change_file::change_count` meets its contract: a field of 20 bits is below 2 ^ 20. Assumes nothing.
 use native.Mathlib.Omega.{arith}
-use borrow.Author.Rules.{rules}
 use Rattle.packed.proofs.Laws.{field_lt}
 use Rattle.change_file.proofs.change_count.Goals as goal
 

@@ -1,7 +1,6 @@
 -- `change_file::change_fault` meets its contract: the edges' fault counts where the length has none. Assumes nothing.
 use mathlib.Core.Path.{sym, ◌∙◌}
 use native.Mathlib.Omega.{arith}
-use borrow.Author.Rules.{rules}
 use Rattle.change_file.proofs.Reading.{length-sized, fault-length, fault-edges}
 use Rattle.change_file.proofs.change_fault.Goals as goal
 

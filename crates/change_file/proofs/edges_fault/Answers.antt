@@ -1,9 +1,9 @@
 -- `change_file::edges_fault` meets its contract. The loop's invariant: the changes before i fit, and `least` is one more than the key
 -- of the one before i. Assumes nothing.
-use Prim.Native.Nat.{◌≤◌, ◌-◌}
+use Prim.Native.Nat.{◌-◌}
 use native.Mathlib.Omega.{arith}
 use borrow.Author.Rules.{rules}
-use Rattle.change_file.proofs.Reading.{Fit, Read, fit_none, stops, bad-source, bad-target, bad-label, bad-order, fits_next, all_fit}
+use Rattle.change_file.proofs.Reading.{Read, fit_none, stops, bad-source, bad-target, bad-label, bad-order, fits_next, all_fit}
 use Rattle.change_file.proofs.edges_fault.Goals as goal
 
 pub loop-i-init : goal.loop-i-init
@@ -32,11 +32,10 @@ returns-then-key-least c = let read : let a = c.args in
 
 pub loop-i-preserved : goal.loop-i-preserved
 loop-i-preserved c = let read : let a = c.args in
-    Read a.n a.file.now c.loop-i.least c.loop-i.i c.source-s.result c.forward_entry-e.result = record { before = c.loop-i.invariant.1; source = c.source-s.ensures.0; its_entry = c.forward_entry-e.ensures.0 } in
-    (
-  search rules,
-  fits_next (read) (omega arith) (omega arith) (omega arith) c.change_key-key.ensures (omega arith),
-)
+    Read a.n a.file.now c.loop-i.least c.loop-i.i c.source-s.result c.forward_entry-e.result = record { before = c.loop-i.invariant.1; source = c.source-s.ensures.0; its_entry = c.forward_entry-e.ensures.0 } in (
+      search rules,
+      fits_next (read) (omega arith) (omega arith) (omega arith) c.change_key-key.ensures (omega arith),
+    )
 
 pub returns : goal.returns
 returns c = all_fit _ c.loop-i.invariant.1 (omega arith)

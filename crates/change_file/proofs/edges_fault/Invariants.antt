@@ -1,9 +1,7 @@
 -- `change_file::edges_fault` meets its contract. The loop's invariant: the changes before i fit, and `least` is one more than the key
 -- of the one before i. Assumes nothing.
 use Prim.Native.Nat.{◌≤◌, ◌-◌}
-use native.Mathlib.Omega.{arith}
-use borrow.Author.Rules.{rules}
-use Rattle.change_file.proofs.Reading.{Fit, Read, fit_none, stops, bad-source, bad-target, bad-label, bad-order, fits_next, all_fit}
+use Rattle.change_file.proofs.Reading.{Fit}
 use Rattle.change_file.proofs.edges_fault.Given as goal
 
 abbrev pub invariant-loop-i : goal.invariant-loop-i

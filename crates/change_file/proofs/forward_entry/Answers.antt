@@ -1,5 +1,4 @@
 -- `change_file::forward_entry` meets its contract. Assumes nothing.
-use borrow.Author.Rules.{rules}
 use Rattle.packed.proofs.Laws.{field_lt}
 use Rattle.change_file.proofs.Reading.{entry-field}
 use Rattle.change_file.proofs.forward_entry.Goals as goal

@@ -2,7 +2,6 @@
 -- Assumes nothing.
 use mathlib.Core.Path.{sym, ◌∙◌}
 use native.Mathlib.Omega.{arith}
-use borrow.Author.Rules.{rules}
 use Rattle.change_file.proofs.Reading.{fault-size, fault-fill, fault-none}
 use Rattle.change_file.proofs.length_fault.Goals as goal
 

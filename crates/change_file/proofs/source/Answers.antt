@@ -2,7 +2,6 @@
 use mathlib.Core.Path.{◌∙◌, ap}
 use Prim.Native.Nat.{ℕ}
 use native.Mathlib.Omega.{arith}
-use borrow.Author.Rules.{rules}
 use Rattle.packed.specs.Field.{field_at}
 use Rattle.packed.proofs.Laws.{field_lt}
 use Rattle.change_file.proofs.source.Goals as goal

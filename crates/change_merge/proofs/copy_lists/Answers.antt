@@ -2,7 +2,7 @@
 use native.Mathlib.Omega.{arith}
 use lib.ListN.{length-drop}
 use Rattle.lists.proofs.Parts.{rest_at}
-use Rattle.change_merge.proofs.Copying.{copy-rises, copy-there, copy-fits, one_has, olds-long, rest-long, olds-fit, copied}
+use Rattle.change_merge.proofs.Copying.{copy-rises, copy-there, copy-fits, olds-long, rest-long, olds-fit, copied}
 use Rattle.change_merge.proofs.copy_lists.Goals as goal
 
 pub overflow_sub-count : goal.overflow_sub-count

@@ -1,13 +1,12 @@
 -- `change_merge::merge_list` meets its contract. Assumes nothing.
 use native.Mathlib.Omega.{arith}
 use mathlib.Core.Path.{◌≡◌, sym, ◌∙◌}
-use Prim.Native.Nat.{◌+◌, ◌-◌}
+use Prim.Native.Nat.{◌-◌}
 use lib.ListN.{length, length-drop}
-use borrow.Author.Rules.{rules}
 use Rattle.lists.proofs.Parts.{rest_at}
 use Rattle.change_merge.specs.Inner.Merge.{side_keys}
 use Rattle.change_merge.proofs.Nexts.{length-side}
-use Rattle.change_merge.proofs.Merging.{Merging, merging-none, word-there, word_room, word-put, word-taken, change-there, change-room, change-put, merged-next, merged-len, merged-room, merged-words}
+use Rattle.change_merge.proofs.Merging.{merging-none, word-there, word_room, word-put, word-taken, change-there, change-room, change-put, merged-next, merged-len, merged-room, merged-words}
 use Rattle.change_merge.proofs.merge_list.Goals as goal
 
 pub next-e-requires : goal.next-e-requires

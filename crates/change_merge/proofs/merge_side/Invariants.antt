@@ -1,13 +1,7 @@
 -- `change_merge::merge_side` meets its contract. Assumes nothing.
-use mathlib.Core.Path.{◌≡◌, sym, ◌∙◌}
-use mathlib.Core.List.{List}
-use Prim.Native.Nat.{ℕ, ◌+◌, ◌-◌, ◌<◌}
-use native.Mathlib.Omega.{arith}
-use lib.ListN.{length, set, length-set}
-use borrow.Author.Rules.{rules}
-use Rattle.change_merge.specs.Inner.Merge.{entries_of, side_keys, keys_on, Fitting}
-use Rattle.change_merge.proofs.Nexts.{length-side}
-use Rattle.change_merge.proofs.Siding.{Siding, Ahead, siding-none, next-ahead, next-inside, end-ahead, siding-copyable, siding-copied, siding-fits, siding-low, siding-able, lent-long, siding-small, siding-next, siding-all, zero-fits, zero-first, zero_rest}
+use Prim.Native.Nat.{◌-◌}
+use Rattle.change_merge.specs.Inner.Merge.{side_keys, keys_on}
+use Rattle.change_merge.proofs.Siding.{Siding}
 use Rattle.change_merge.proofs.merge_side.Given as goal
 
 abbrev pub invariant-loop-next : goal.invariant-loop-next

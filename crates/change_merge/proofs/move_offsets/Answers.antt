@@ -1,9 +1,7 @@
 -- `change_merge::move_offsets` meets its contract. Assumes nothing.
 use native.Mathlib.Omega.{arith}
-use borrow.Author.Rules.{rules}
 use mathlib.Core.Path.{◌≡◌}
-use Prim.Native.Nat.{◌-◌, ◌≤◌}
-use Rattle.change_merge.specs.Inner.Merge.{Moved}
+use Prim.Native.Nat.{◌-◌}
 use Rattle.change_merge.proofs.Copying.{moved_none, moved_more}
 use Rattle.change_merge.proofs.move_offsets.Goals as goal
 

@@ -1,10 +1,6 @@
 -- `change_merge::move_offsets` meets its contract. Assumes nothing.
-use native.Mathlib.Omega.{arith}
-use borrow.Author.Rules.{rules}
-use mathlib.Core.Path.{◌≡◌}
 use Prim.Native.Nat.{◌-◌, ◌≤◌}
 use Rattle.change_merge.specs.Inner.Merge.{Moved}
-use Rattle.change_merge.proofs.Copying.{moved_none, moved_more}
 use Rattle.change_merge.proofs.move_offsets.Given as goal
 
 abbrev pub invariant-loop-i : goal.invariant-loop-i

@@ -1,6 +1,5 @@
 -- `change_merge::next` meets its contract. Assumes nothing.
 use native.Mathlib.Omega.{arith}
-use borrow.Author.Rules.{rules}
 use Rattle.change_merge.proofs.Nexts.{next-end, next-other, next_here}
 use Rattle.change_merge.proofs.next.Goals as goal
 

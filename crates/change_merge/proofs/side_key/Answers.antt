@@ -1,5 +1,4 @@
 -- `change_merge::side_key` meets its contract. Assumes nothing.
-use borrow.Author.Rules.{rules}
 use Rattle.change_merge.proofs.Nexts.{key-filed, key-there, key-given}
 use Rattle.change_merge.proofs.side_key.Goals as goal
 

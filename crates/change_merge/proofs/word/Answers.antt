@@ -1,6 +1,5 @@
 -- `change_merge::word` meets its contract. Assumes nothing.
 use native.Mathlib.Omega.{arith}
-use borrow.Author.Rules.{rules}
 use mathlib.Core.Path.{sym}
 use lib.ListN.{get_or-eq_default}
 use Rattle.change_merge.proofs.Nexts.{word_at}

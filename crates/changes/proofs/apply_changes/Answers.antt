@@ -1,5 +1,4 @@
 -- `changes::apply_changes` meets its contract. Assumes nothing.
-use borrow.Author.Rules.{rules}
 use mathlib.Core.Path.{sym, ◌∙◌}
 use Rattle.adjacency.proofs.Accepted.{store-counts}
 use Rattle.changes.proofs.Answers.{tested-sized, few_edges, enough-edges, edges_are, accepted-store, accepted-long, accepted-tested, accepted-all, accepted-room, answer-accepted, store-accepted, answer-refused, store-refused}

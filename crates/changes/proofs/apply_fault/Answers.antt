@@ -1,6 +1,5 @@
 -- `changes::apply_fault` meets its contract. Assumes nothing.
 use native.Mathlib.Omega.{arith}
-use borrow.Author.Rules.{rules}
 use mathlib.Core.Path.{sym, ◌∙◌}
 use Rattle.adjacency.proofs.Accepted.{store-counts}
 use Rattle.changes.proofs.Present.{file-sized}
@@ -27,12 +26,12 @@ overflow_add-n c = omega (arith, store-counts _ (sym c.store_fault-damaged.ensur
 
 pub edits_fault-misfit-requires : goal.edits_fault-misfit-requires
 edits_fault-misfit-requires c = record {
-      accepted = (sym c.store_fault-damaged.ensures ∙ c.if-damaged-ne0.false);
-      vertices = c.of_store-g.ensures.0;
-      begins = omega (arith, c.of_store-g.ensures.0);
-      fits = sym c.change_fault-misread.ensures ∙ c.if-misread-ne0.false;
-      changes = c.change_count-k.ensures.0;
-    }
+  accepted = (sym c.store_fault-damaged.ensures ∙ c.if-damaged-ne0.false);
+  vertices = c.of_store-g.ensures.0;
+  begins = omega (arith, c.of_store-g.ensures.0);
+  fits = sym c.change_fault-misread.ensures ∙ c.if-misread-ne0.false;
+  changes = c.change_count-k.ensures.0;
+}
 
 pub returns-then-misfit-ne0 : goal.returns-then-misfit-ne0
 returns-then-misfit-ne0 c = fault-edits _ _ _ (sym c.store_fault-damaged.ensures ∙ c.if-damaged-ne0.false) c.of_store-g.ensures.0 (sym c.change_fault-misread.ensures ∙ c.if-misread-ne0.false) c.edits_fault-misfit.ensures c.if-misfit-ne0.true

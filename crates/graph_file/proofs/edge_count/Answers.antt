@@ -1,6 +1,5 @@
 -- `graph_file::edge_count` meets its contract: a field of 20 bits is below 2 ^ 20. Assumes nothing.
 use native.Mathlib.Omega.{arith}
-use borrow.Author.Rules.{rules}
 use Rattle.packed.proofs.Laws.{field_lt}
 use Rattle.graph_file.proofs.edge_count.Goals as goal
 

@@ -1,12 +1,12 @@
 -- `graph_file::edges_fault` meets its contract. The loop's invariant: no edge before i is at fault, and `least` is one more than
 -- the key of the edge before i. Assumes nothing.
 use mathlib.Core.Path.{◌≡◌, sym}
-use Prim.Native.Nat.{◌≤◌, ◌-◌}
+use Prim.Native.Nat.{◌-◌}
 use native.Mathlib.Omega.{arith}
 use borrow.Author.Rules.{rules}
 use Rattle.graph.specs.File.{edge_count}
 use Rattle.graph_file.specs.Inner.Reading.{graph_edges_fault}
-use Rattle.graph_file.proofs.Refused.{Faultless, Read, faultless-start, fault-source, fault-target, fault-label, fault-order, fault-none, read-fault, read_more}
+use Rattle.graph_file.proofs.Refused.{Read, faultless-start, fault-source, fault-target, fault-label, fault-order, fault-none, read-fault, read_more}
 use Rattle.graph_file.proofs.edges_fault.Goals as goal
 
 pub loop-i-init : goal.loop-i-init
@@ -61,11 +61,10 @@ loop-i-preserved c = let read : let a = c.args in
       earlier = c.loop-i.invariant.1;
       source = c.source-s.ensures.0;
       its_entry = c.forward_entry-e.ensures.0;
-    } in
-    (
-  search rules,
-  read_more (read) (fault-none _ _ _ _ (omega arith) (omega arith) c.if-e-eq0.false c.edge_key-key.ensures c.if-key-least.false) c.edge_key-key.ensures,
-)
+    } in (
+      search rules,
+      read_more (read) (fault-none _ _ _ _ (omega arith) (omega arith) c.if-e-eq0.false c.edge_key-key.ensures c.if-key-least.false) c.edge_key-key.ensures,
+    )
 
 pub returns : goal.returns
 unfolding graph_edges_fault

@@ -1,7 +1,6 @@
 -- `graph_file::graph_fault` meets its contract: the edges' faults count where the length has none. Assumes nothing.
 use mathlib.Core.Path.{sym, ◌∙◌}
 use native.Mathlib.Omega.{arith}
-use borrow.Author.Rules.{rules}
 use Rattle.graph_file.proofs.Refused.{graph-length, graph-edges, length-there, file-whole}
 use Rattle.graph_file.proofs.graph_fault.Goals as goal
 

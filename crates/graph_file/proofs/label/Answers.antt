@@ -1,6 +1,5 @@
 -- `graph_file::label` meets its contract: it is a part of the forward entry. Assumes nothing.
 use native.Mathlib.Omega.{arith}
-use borrow.Author.Rules.{rules}
 use Rattle.graph_file.proofs.Entries.{entry-label}
 use Rattle.graph_file.proofs.label.Goals as goal
 

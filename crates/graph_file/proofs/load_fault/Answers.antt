@@ -1,7 +1,6 @@
 -- `graph_file::load_fault` meets its contract: the store's size counts where the file has no fault. Assumes nothing.
 use mathlib.Core.Path.{sym, ◌∙◌}
 use native.Mathlib.Omega.{arith}
-use borrow.Author.Rules.{rules}
 use Rattle.graph.proofs.FileGraph.{accepted}
 use Rattle.graph_file.proofs.Refused.{load-file, load-small, load-holds}
 use Rattle.graph_file.proofs.load_fault.Goals as goal

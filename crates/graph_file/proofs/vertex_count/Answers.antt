@@ -1,6 +1,5 @@
 -- `graph_file::vertex_count` meets its contract: a field of 16 bits is below 2 ^ 16. Assumes nothing.
 use native.Mathlib.Omega.{arith}
-use borrow.Author.Rules.{rules}
 use Rattle.packed.proofs.Laws.{field_lt}
 use Rattle.graph_file.proofs.vertex_count.Goals as goal
 

@@ -1,9 +1,7 @@
 -- `judge_sheet::show_lists` is safe and ends. Assumes nothing.
 use mathlib.Core.Path.{◌≡◌}
 use Prim.Native.Nat.{◌-◌, ◌≤◌}
-use native.Mathlib.Omega.{arith}
 use lib.ListN.{length}
-use borrow.Author.Rules.{rules}
 use Rattle.judge_sheet.proofs.show_lists.Given as goal
 
 abbrev pub invariant-loop-k : goal.invariant-loop-k

@@ -1,8 +1,6 @@
 -- `judge_sheet::show_pages` is safe and ends. Assumes nothing.
 use mathlib.Core.Path.{◌≡◌}
-use native.Mathlib.Omega.{arith}
 use lib.ListN.{length}
-use borrow.Author.Rules.{rules}
 use Rattle.judge_sheet.proofs.show_pages.Given as goal
 
 abbrev pub invariant-loop-page : goal.invariant-loop-page

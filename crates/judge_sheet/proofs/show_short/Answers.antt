@@ -1,7 +1,6 @@
 -- `judge_sheet::show_short` is safe and ends. Assumes nothing.
 use mathlib.Core.Path.{sym}
 use lib.Seq.{length-take-le}
-use borrow.Author.Rules.{rules}
 use Rattle.judge_sheet.proofs.show_short.Goals as goal
 
 pub slice_bounds-show-end-2 : goal.slice_bounds-show-end-2

@@ -1,7 +1,5 @@
 -- `judge_sheet::words` is safe and ends. Assumes nothing.
 use Prim.Native.Nat.{◌-◌, ◌≤◌}
-use native.Mathlib.Omega.{arith}
-use borrow.Author.Rules.{rules}
 use Rattle.judge_sheet.proofs.words.Given as goal
 
 abbrev pub invariant-loop-i : goal.invariant-loop-i

@@ -8,7 +8,6 @@ use native.Mathlib.Omega.{arith}
 use lib.ListN.{length, take, drop, length-map, drop_of_length-le}
 use lib.Seq.{take_all}
 use denote.Struct.Laws as LL
-use borrow.Author.Rules.{rules}
 use Rattle.run_spec.specs.declared.Record.{Record}
 use Rattle.run_spec.specs.contracts.Record as R
 use Rattle.lending.specs.Lending.{Fills}

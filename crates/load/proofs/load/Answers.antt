@@ -1,7 +1,6 @@
 -- `load::load` meets its contract: the answer and every word of the store, refused and accepted. Assumes nothing.
 use mathlib.Core.Path.{sym, ◌∙◌}
 use native.Mathlib.Omega.{arith}
-use borrow.Author.Rules.{rules}
 use Rattle.graph.proofs.FileGraph.{accepted}
 use Rattle.load.proofs.Answered.{answer-refused, store-refused, file-accepted, whole-accepted, room-accepted, answer-accepted, store-accepted}
 use Rattle.load.proofs.load.Goals as goal

@@ -1,6 +1,5 @@
 -- `packed::byte` meets its contract: past the end `get_or` gives 0. Assumes nothing.
 use mathlib.Core.Path.{sym}
-use borrow.Author.Rules.{rules}
 use lib.ListN.{get_or-eq_default}
 use Rattle.packed.proofs.byte.Goals as goal
 

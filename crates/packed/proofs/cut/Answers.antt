@@ -1,7 +1,6 @@
 -- `packed::cut` meets its contract: 1 shifted by `width`, less 1, is a mask of that many ones. Assumes nothing.
 use Prim.Native.Nat.{◌/◌, ◌^◌}
 use native.Mathlib.Omega.{arith}
-use borrow.Author.Rules.{rules}
 use lib.Dec.{lit<}
 use lib.Pow.{pow_pos, shl_exact}
 use Rattle.packed.proofs.Shifts.{masked}

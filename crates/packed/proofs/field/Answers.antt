@@ -1,6 +1,5 @@
 -- `packed::field` meets its contract: it is cut from the word at its first byte (`field_cut`). Assumes nothing.
 use native.Mathlib.Omega.{arith}
-use borrow.Author.Rules.{rules}
 use Rattle.packed.proofs.Laws.{field_cut}
 use Rattle.packed.proofs.Shifts.{low_fits}
 use Rattle.packed.proofs.field.Goals as goal

@@ -1,6 +1,5 @@
 -- `packed::inner_word` meets its contract: it joins the bytes at i to i + 3. Assumes nothing.
 use native.Mathlib.Omega.{arith}
-use borrow.Author.Rules.{rules}
 use Rattle.packed.proofs.Laws.{field-word}
 use Rattle.packed.proofs.inner_word.Goals as goal
 

@@ -6,7 +6,7 @@ use Rattle.packed.proofs.join.Goals as goal
 
 pub returns : goal.returns
 returns c = rw (
-      byte-joined c.args.a c.args.b (omega arith) (omega arith),
-      byte-joined (c.args.a * 256 + c.args.b) c.args.c (omega arith) (omega arith),
-      byte-joined ((c.args.a * 256 + c.args.b) * 256 + c.args.c) c.args.d (omega arith) (omega arith),
-    )
+  byte-joined c.args.a c.args.b (omega arith) (omega arith),
+  byte-joined (c.args.a * 256 + c.args.b) c.args.c (omega arith) (omega arith),
+  byte-joined ((c.args.a * 256 + c.args.b) * 256 + c.args.c) c.args.d (omega arith) (omega arith),
+)

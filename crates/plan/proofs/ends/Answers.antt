@@ -2,7 +2,6 @@
 use mathlib.Core.Path.{ap₂, ◌∙◌}
 use mathlib.Core.Bool.{◌||◌}
 use Rattle.query.proofs.Masks.{in-or}
-use borrow.Author.Rules.{rules}
 use Rattle.plan.proofs.ends.Goals as goal
 
 pub returns : goal.returns

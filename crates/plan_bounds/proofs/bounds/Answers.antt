@@ -1,5 +1,4 @@
 -- `plan_bounds::bounds` meets its contract. Assumes nothing.
-use borrow.Author.Rules.{rules}
 use mathlib.Core.Path.{◌≡◌, sym, ◌∙◌}
 use Rattle.graph.specs.Store.{store_fault}
 use Rattle.plan.specs.File.{check_fault}

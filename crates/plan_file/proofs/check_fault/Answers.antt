@@ -1,7 +1,6 @@
 -- `plan_file::check_fault` meets its contract: the query's faults, then the file's, then the rules'. Assumes nothing.
 -- Past the first test the query has no fault.
 use mathlib.Core.Path.{◌≡◌, sym, ◌∙◌, ap}
-use borrow.Author.Rules.{rules}
 use Rattle.query.specs.File.{query_of, query_fault}
 use Rattle.query.specs.declared.Query.{Query as QueryStruct}
 use Rattle.query_file.proofs.Structs.{file-struct}

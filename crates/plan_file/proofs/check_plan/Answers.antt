@@ -4,7 +4,6 @@ use borrow.Author.Tests.{ne_eqb}
 use Rattle.plan.specs.File.{check_answer}
 use Rattle.plan_file.proofs.Places.{place-long}
 use Rattle.plan_file.proofs.Accepted.{accepted}
-use borrow.Author.Rules.{rules}
 use Rattle.plan_file.proofs.check_plan.Goals as goal
 
 pub returns-then-refusal-ne0 : goal.returns-then-refusal-ne0

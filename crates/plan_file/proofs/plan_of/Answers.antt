@@ -3,13 +3,12 @@ use mathlib.Core.Path.{◌≡◌, ◌∙◌}
 use Prim.Native.Nat.{◌+◌, ◌-◌, ◌≤◌, ◌<◌}
 use native.Mathlib.Omega.{arith}
 use lib.Dec.{lit≤}
-use borrow.Author.Rules.{rules}
 use Rattle.packed.specs.Field.{bits_in}
 use Rattle.packed.proofs.Laws.{field_lt}
 use Rattle.plan.specs.File.{kind_at, operand_bits}
 use Rattle.plan.specs.Plan.{max_operators}
 use Rattle.plan_file.proofs.Places.{place-long}
-use Rattle.plan_file.proofs.Structs.{Copied, copied_none, copied-there, copied_more, copied_all}
+use Rattle.plan_file.proofs.Structs.{copied_none, copied-there, copied_more, copied_all}
 use Rattle.plan_file.proofs.plan_of.Goals as goal
 
 pub operator_count-count-requires : goal.operator_count-count-requires

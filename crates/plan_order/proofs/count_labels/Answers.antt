@@ -1,12 +1,12 @@
 -- `plan_order::count_labels` meets its contract. The loop's invariant: the counts are those of the first i entries.
 -- Assumes nothing.
 use mathlib.Core.Path.{◌≡◌, refl}
-use Prim.Native.Nat.{◌-◌, ◌≤◌}
+use Prim.Native.Nat.{◌-◌}
 use native.Mathlib.Omega.{arith}
 use lib.ListN.{length}
 use borrow.Author.Rules.{rules}
-use Rattle.counting_sort.proofs.Counting.{Tallied, tallied-none, tallied-fits, tallied-more}
-use Rattle.plan_order.proofs.Tallies.{label_at, label-below, tallied-all}
+use Rattle.counting_sort.proofs.Counting.{tallied-none, tallied-fits, tallied-more}
+use Rattle.plan_order.proofs.Tallies.{label-below, tallied-all}
 use Rattle.plan_order.proofs.count_labels.Goals as goal
 
 pub loop-i-init : goal.loop-i-init

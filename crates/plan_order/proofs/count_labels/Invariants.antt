@@ -1,12 +1,9 @@
 -- `plan_order::count_labels` meets its contract. The loop's invariant: the counts are those of the first i entries.
 -- Assumes nothing.
-use mathlib.Core.Path.{◌≡◌, refl}
 use Prim.Native.Nat.{◌-◌, ◌≤◌}
-use native.Mathlib.Omega.{arith}
 use lib.ListN.{length}
-use borrow.Author.Rules.{rules}
-use Rattle.counting_sort.proofs.Counting.{Tallied, tallied-none, tallied-fits, tallied-more}
-use Rattle.plan_order.proofs.Tallies.{label_at, label-below, tallied-all}
+use Rattle.counting_sort.proofs.Counting.{Tallied}
+use Rattle.plan_order.proofs.Tallies.{label_at}
 use Rattle.plan_order.proofs.count_labels.Given as goal
 
 abbrev pub invariant-loop-i : goal.invariant-loop-i

@@ -1,6 +1,6 @@
 -- `plan_order::degree` meets its contract. The loop's invariant: the edges found are those among the first i. Assumes nothing.
 use mathlib.Core.Path.{◌≡◌, sym, ◌∙◌, ap, ap₂}
-use Prim.Native.Nat.{ℕ, ◌+◌, ◌-◌, ◌≤◌}
+use Prim.Native.Nat.{ℕ, ◌+◌, ◌-◌}
 use native.Mathlib.Omega.{arith}
 use borrow.Author.Rules.{rules}
 use Rattle.lists.specs.Lists.{bit}
@@ -26,19 +26,19 @@ joins-found-requires c = edge-ends c.args.q c.loop-i.i (search rules) c.edge.res
 
 pub overflow_add-found : goal.overflow_add-found
 overflow_add-found c = omega (
-      arith,
-      joined-le c.args.q c.args.v (in_mask c.args.set) c.loop-i.i,
-      bit_le (between c.args.v (in_mask c.args.set) (as_edge c.edge.result)),
-      c.requires.0.edges,
-    )
+  arith,
+  joined-le c.args.q c.args.v (in_mask c.args.set) c.loop-i.i,
+  bit_le (between c.args.v (in_mask c.args.set) (as_edge c.edge.result)),
+  c.requires.0.edges,
+)
 
 pub loop-i-preserved : goal.loop-i-preserved
 loop-i-preserved c = let i = c.loop-i.i in (
-      search rules,
-      ap₂ (λ (m n : ℕ). m + n) c.loop-i.invariant.1
-          (c.joins-found.ensures ∙ ap (λ (e : Edge). bit (between c.args.v (in_mask c.args.set) e)) (edge-read c.args.q i c.edge.result (search rules) c.edge.ensures))
-          ∙ sym (joined-more c.args.q c.args.v (in_mask c.args.set) i),
-    )
+  search rules,
+  ap₂ (λ (m n : ℕ). m + n) c.loop-i.invariant.1
+      (c.joins-found.ensures ∙ ap (λ (e : Edge). bit (between c.args.v (in_mask c.args.set) e)) (edge-read c.args.q i c.edge.result (search rules) c.edge.ensures))
+      ∙ sym (joined-more c.args.q c.args.v (in_mask c.args.set) i),
+)
 
 pub returns : goal.returns
 returns c = let all : c.loop-i.i ≡ c.args.q.edges = omega arith in

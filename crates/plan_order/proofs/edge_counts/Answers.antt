@@ -2,7 +2,6 @@
 use mathlib.Core.Path.{◌∙◌}
 use native.Mathlib.Omega.{arith}
 use native.Mathlib.Nat.{add-sub_cancel_left}
-use borrow.Author.Rules.{rules}
 use Rattle.adjacency.proofs.Accepted.{store-counts}
 use Rattle.plan_order.proofs.Tallies.{forward-room, part-entries, part-counts}
 use Rattle.plan_order.proofs.edge_counts.Goals as goal

@@ -2,13 +2,13 @@
 -- nothing.
 -- nothing.
 use mathlib.Core.Path.{◌≡◌}
-use Prim.Native.Nat.{◌-◌, ◌≤◌}
+use Prim.Native.Nat.{◌-◌}
 use native.Mathlib.Omega.{arith}
 use borrow.Author.Rules.{rules}
 use Rattle.query.specs.Inner.Mask.{in_mask}
 use Rattle.query.specs.Inner.Struct.{query_in}
 use Rattle.plan_order.specs.Order.{degree, next_vertex}
-use Rattle.plan_order.proofs.Choosing.{kept-one, Most, most-take, most-leave}
+use Rattle.plan_order.proofs.Choosing.{kept-one, most-take, most-leave}
 use Rattle.plan_order.proofs.next_vertex.Goals as goal
 
 pub degree-most-requires : goal.degree-most-requires
@@ -22,15 +22,15 @@ degree-edges-requires c = (c.requires.held, omega (arith, c.requires.held.vertic
 
 pub loop-v-preserved-then-most-edges : goal.loop-v-preserved-then-most-edges
 loop-v-preserved-then-most-edges c = let a = c.args in (
-      search rules,
-      most-take (degree (query_in a.q) (in_mask a.set)) _ c.degree-edges.ensures c.loop-v.invariant.1 c.if-most-edges.true,
-    )
+  search rules,
+  most-take (degree (query_in a.q) (in_mask a.set)) _ c.degree-edges.ensures c.loop-v.invariant.1 c.if-most-edges.true,
+)
 
 pub loop-v-preserved : goal.loop-v-preserved
 loop-v-preserved c = let a = c.args in (
-      search rules,
-      most-leave (degree (query_in a.q) (in_mask a.set)) _ c.degree-edges.ensures c.loop-v.invariant.1 c.if-most-edges.false,
-    )
+  search rules,
+  most-leave (degree (query_in a.q) (in_mask a.set)) _ c.degree-edges.ensures c.loop-v.invariant.1 c.if-most-edges.false,
+)
 
 pub returns : goal.returns
 unfolding next_vertex query_in

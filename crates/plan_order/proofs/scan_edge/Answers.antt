@@ -1,12 +1,12 @@
 -- `plan_order::scan_edge` meets its contract. The loop's invariant: the best of the first i edges, and its label's count.
 -- Assumes nothing.
 use mathlib.Core.Path.{◌≡◌, ap}
-use Prim.Native.Nat.{ℕ, ◌-◌, ◌≤◌}
+use Prim.Native.Nat.{ℕ, ◌-◌}
 use native.Mathlib.Omega.{arith}
 use lib.ListN.{get_or}
 use borrow.Author.Rules.{rules}
 use Rattle.query.specs.Inner.Struct.{query_in}
-use Rattle.plan_order.proofs.Choosing.{kept-one, Fewest, fewest-take, fewest-leave}
+use Rattle.plan_order.proofs.Choosing.{kept-one, fewest-take, fewest-leave}
 use Rattle.plan_order.proofs.Tallies.{size_by}
 use Rattle.plan_order.proofs.Degrees.{edge-label, label-byte}
 use Rattle.plan_order.proofs.scan_edge.Goals as goal
@@ -19,9 +19,9 @@ bounds-counts-edge c = label-byte c.args.q 0 c.requires.edges c.edge.result c.ed
 
 pub loop-i-init : goal.loop-i-init
 loop-i-init c = (
-      c.requires.edges,
-      kept-one _ _ _ (ap (λ (l : ℕ). get_or c.args.counts.now l 0) (edge-label c.args.q 0 c.requires.edges c.edge.result c.edge.ensures)),
-    )
+  c.requires.edges,
+  kept-one _ _ _ (ap (λ (l : ℕ). get_or c.args.counts.now l 0) (edge-label c.args.q 0 c.requires.edges c.edge.result c.edge.ensures)),
+)
 
 pub edge-requires-in-loop-i : goal.edge-requires-in-loop-i
 edge-requires-in-loop-i c = (search rules, c.requires.held.edges)
@@ -31,19 +31,19 @@ bounds-counts-edge-in-loop-i c = label-byte c.args.q c.loop-i.i (search rules) c
 
 pub loop-i-preserved-then-count-fewest : goal.loop-i-preserved-then-count-fewest
 loop-i-preserved-then-count-fewest c = (
-      search rules,
-      fewest-take (size_by c.args.counts.now (query_in c.args.q)) _
-          (ap (λ (l : ℕ). get_or c.args.counts.now l 0) (edge-label c.args.q c.loop-i.i (search rules) c.edge-in-loop-i.result c.edge-in-loop-i.ensures))
-          c.loop-i.invariant.1 c.if-count-fewest.true,
-    )
+  search rules,
+  fewest-take (size_by c.args.counts.now (query_in c.args.q)) _
+      (ap (λ (l : ℕ). get_or c.args.counts.now l 0) (edge-label c.args.q c.loop-i.i (search rules) c.edge-in-loop-i.result c.edge-in-loop-i.ensures))
+      c.loop-i.invariant.1 c.if-count-fewest.true,
+)
 
 pub loop-i-preserved : goal.loop-i-preserved
 loop-i-preserved c = (
-      search rules,
-      fewest-leave (size_by c.args.counts.now (query_in c.args.q)) _
-          (ap (λ (l : ℕ). get_or c.args.counts.now l 0) (edge-label c.args.q c.loop-i.i (search rules) c.edge-in-loop-i.result c.edge-in-loop-i.ensures))
-          c.loop-i.invariant.1 c.if-count-fewest.false,
-    )
+  search rules,
+  fewest-leave (size_by c.args.counts.now (query_in c.args.q)) _
+      (ap (λ (l : ℕ). get_or c.args.counts.now l 0) (edge-label c.args.q c.loop-i.i (search rules) c.edge-in-loop-i.result c.edge-in-loop-i.ensures))
+      c.loop-i.invariant.1 c.if-count-fewest.false,
+)
 
 pub returns : goal.returns
 returns c = let all : c.loop-i.i ≡ c.args.q.edges = omega arith in

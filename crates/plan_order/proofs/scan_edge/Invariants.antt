@@ -1,14 +1,9 @@
 -- `plan_order::scan_edge` meets its contract. The loop's invariant: the best of the first i edges, and its label's count.
 -- Assumes nothing.
-use mathlib.Core.Path.{◌≡◌, ap}
-use Prim.Native.Nat.{ℕ, ◌-◌, ◌≤◌}
-use native.Mathlib.Omega.{arith}
-use lib.ListN.{get_or}
-use borrow.Author.Rules.{rules}
+use Prim.Native.Nat.{◌-◌, ◌≤◌}
 use Rattle.query.specs.Inner.Struct.{query_in}
-use Rattle.plan_order.proofs.Choosing.{kept-one, Fewest, fewest-take, fewest-leave}
+use Rattle.plan_order.proofs.Choosing.{Fewest}
 use Rattle.plan_order.proofs.Tallies.{size_by}
-use Rattle.plan_order.proofs.Degrees.{edge-label, label-byte}
 use Rattle.plan_order.proofs.scan_edge.Given as goal
 
 abbrev pub invariant-loop-i : goal.invariant-loop-i

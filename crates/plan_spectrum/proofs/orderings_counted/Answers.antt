@@ -3,7 +3,7 @@
 use mathlib.Core.Path.{◌≡◌, sym, ◌∙◌, ap, subst}
 use Prim.Native.Nat.{ℕ, ◌≤◌, ◌<◌}
 use lib.ListN.{length}
-use Rattle.graph.specs.Store.{graph_in, store_fault}
+use Rattle.graph.specs.Store.{graph_in}
 use Rattle.query.specs.Query.{Query}
 use Rattle.query.specs.Answer.{struct_of}
 use Rattle.query.specs.File.{query_of, query_fault}
@@ -15,7 +15,6 @@ use Rattle.plan_spectrum.specs.Spectrum.{max_spectrum}
 use Rattle.plan_spectrum.specs.Inner.Parts.{Settled}
 use Rattle.plan_spectrum.proofs.Finishing.{read_small}
 use Rattle.plan_spectrum.proofs.Answers.{done-query, done-large, done-store, done-settled}
-use borrow.Author.Rules.{rules}
 use Rattle.plan_spectrum.proofs.orderings_counted.Goals as goal
 
 pub returns-then-fault-ne0 : goal.returns-then-fault-ne0
@@ -42,8 +41,7 @@ pub write_orderings-requires : goal.write_orderings-requires
 unfolding struct_of
 write_orderings-requires c = let read : query_fault c.args.query.now ≡ 0 = sym c.query_fault-fault.ensures ∙ c.if-fault-ne0.false in
     let vertices_are : c.query_of-q.result.vertices ≡ (query_of c.args.query.now).vertices = ap (λ (d : QueryStruct). d.vertices) c.query_of-q.ensures in
-    let few : (query_of c.args.query.now).vertices ≤ max_spectrum = subst (λ (n : ℕ). n ≤ max_spectrum) (vertices_are) c.if-q-gt-MAX_VERTICES.false in
-    (
+    let few : (query_of c.args.query.now).vertices ≤ max_spectrum = subst (λ (n : ℕ). n ≤ max_spectrum) (vertices_are) c.if-q-gt-MAX_VERTICES.false in (
       rw c.query_of-q.ensures (read_small c.args.query.now (read) (few)),
       sym c.store_fault-fault.ensures ∙ c.if-fault-ne0-2.false,
       c.requires,

@@ -1,10 +1,7 @@
 -- `plan_spectrum::run_orderings` meets its contract. Assumes nothing.
-use mathlib.Core.Path.{◌∙◌}
 use Prim.Native.Nat.{◌-◌}
 use native.Mathlib.Omega.{arith}
-use Rattle.graph.specs.Store.{graph_in}
-use Rattle.query.specs.Inner.Struct.{query_in}
-use Rattle.plan_spectrum.proofs.Pricing.{Priced, price-start, row_fits, runs, priced-refused, priced-more, price-done}
+use Rattle.plan_spectrum.proofs.Pricing.{price-start, row_fits, runs, priced-refused, priced-more, price-done}
 use Rattle.plan_spectrum.proofs.run_orderings.Goals as goal
 
 pub overflow_sub-width : goal.overflow_sub-width

@@ -1,8 +1,8 @@
 -- `plan_spectrum::write_orderings` meets its contract. Assumes nothing.
 -- The orderings lie in the list, and there is room for their costs.
-use mathlib.Core.Path.{◌≡◌, refl, sym, ◌∙◌, ap, subst}
+use mathlib.Core.Path.{sym, ◌∙◌, ap, subst}
 use mathlib.Core.List.{List, ◌++◌}
-use Prim.Native.Nat.{ℕ, suc, ◌+◌, ◌-◌, ◌*◌, ◌≤◌, ◌<◌}
+use Prim.Native.Nat.{ℕ, ◌+◌, ◌-◌, ◌*◌, ◌≤◌, ◌<◌}
 use native.Mathlib.Omega.{arith}
 use lib.ListN.{length, drop, replicate, length-replicate}
 use Rattle.graph.specs.Store.{graph_in}
@@ -12,7 +12,6 @@ use Rattle.plan_spectrum.specs.Inner.Parts.{Lie}
 use Rattle.plan_spectrum.proofs.Pricing.{list_long}
 use Rattle.plan_spectrum.proofs.Finishing.{entries-room, room_small, entries-written}
 use Rattle.plan_spectrum.proofs.Answers.{settled-short, settled-refused, settled-written, listed-flat}
-use borrow.Author.Rules.{rules}
 use Rattle.plan_spectrum.proofs.write_orderings.Goals as goal
 
 pub overflow_mul-plans : goal.overflow_mul-plans
@@ -26,14 +25,14 @@ returns-then-words-plans c = let l = c.list_orderings-plans in
 
 pub run_orderings-limit-requires : goal.run_orderings-limit-requires
 run_orderings-limit-requires c = let lied : let a = c.args in Lie a.store.now a.q c.list_orderings-plans.new.out c.list_orderings-plans.result a.work.now (replicate 144 0) = record {
-      accepted = c.requires.1;
-      small = c.requires.0;
-      number = c.list_orderings-plans.ensures.0.number;
-      rest = _;
-      lie = listed-flat (orderings (query_in c.args.q)) _ c.list_orderings-plans.new.out c.list_orderings-plans.result c.list_orderings-plans.ensures.0;
-      room = subst (λ (n : ℕ). c.list_orderings-plans.result ≤ n) (sym (length-replicate {A = ℕ} 144 0)) c.list_orderings-plans.ensures.1;
-      short = c.requires.2;
-    } in
+  accepted = c.requires.1;
+  small = c.requires.0;
+  number = c.list_orderings-plans.ensures.0.number;
+  rest = _;
+  lie = listed-flat (orderings (query_in c.args.q)) _ c.list_orderings-plans.new.out c.list_orderings-plans.result c.list_orderings-plans.ensures.0;
+  room = subst (λ (n : ℕ). c.list_orderings-plans.result ≤ n) (sym (length-replicate {A = ℕ} 144 0)) c.list_orderings-plans.ensures.1;
+  short = c.requires.2;
+} in
     lied
 
 pub returns-then-limit-ne0 : goal.returns-then-limit-ne0
@@ -46,14 +45,14 @@ returns-then-limit-ne0 c = let l = c.list_orderings-plans in
 
 pub write_entries-requires : goal.write_entries-requires
 write_entries-requires c = let lied : let a = c.args in Lie a.store.now a.q c.list_orderings-plans.new.out c.list_orderings-plans.result a.work.now (replicate 144 0) = record {
-      accepted = c.requires.1;
-      small = c.requires.0;
-      number = c.list_orderings-plans.ensures.0.number;
-      rest = _;
-      lie = listed-flat (orderings (query_in c.args.q)) _ c.list_orderings-plans.new.out c.list_orderings-plans.result c.list_orderings-plans.ensures.0;
-      room = subst (λ (n : ℕ). c.list_orderings-plans.result ≤ n) (sym (length-replicate {A = ℕ} 144 0)) c.list_orderings-plans.ensures.1;
-      short = c.requires.2;
-    } in
+  accepted = c.requires.1;
+  small = c.requires.0;
+  number = c.list_orderings-plans.ensures.0.number;
+  rest = _;
+  lie = listed-flat (orderings (query_in c.args.q)) _ c.list_orderings-plans.new.out c.list_orderings-plans.result c.list_orderings-plans.ensures.0;
+  room = subst (λ (n : ℕ). c.list_orderings-plans.result ≤ n) (sym (length-replicate {A = ℕ} 144 0)) c.list_orderings-plans.ensures.1;
+  short = c.requires.2;
+} in
     let l = c.list_orderings-plans in
     let r = c.run_orderings-limit in (
       list_long c.args.store.now c.args.q l.new.1.0 l.result c.args.work.now (replicate 144 0) (lied),
@@ -64,14 +63,14 @@ write_entries-requires c = let lied : let a = c.args in Lie a.store.now a.q c.li
 
 pub returns : goal.returns
 returns c = let lied : let a = c.args in Lie a.store.now a.q c.list_orderings-plans.new.out c.list_orderings-plans.result a.work.now (replicate 144 0) = record {
-      accepted = c.requires.1;
-      small = c.requires.0;
-      number = c.list_orderings-plans.ensures.0.number;
-      rest = _;
-      lie = listed-flat (orderings (query_in c.args.q)) _ c.list_orderings-plans.new.out c.list_orderings-plans.result c.list_orderings-plans.ensures.0;
-      room = subst (λ (n : ℕ). c.list_orderings-plans.result ≤ n) (sym (length-replicate {A = ℕ} 144 0)) c.list_orderings-plans.ensures.1;
-      short = c.requires.2;
-    } in
+  accepted = c.requires.1;
+  small = c.requires.0;
+  number = c.list_orderings-plans.ensures.0.number;
+  rest = _;
+  lie = listed-flat (orderings (query_in c.args.q)) _ c.list_orderings-plans.new.out c.list_orderings-plans.result c.list_orderings-plans.ensures.0;
+  room = subst (λ (n : ℕ). c.list_orderings-plans.result ≤ n) (sym (length-replicate {A = ℕ} 144 0)) c.list_orderings-plans.ensures.1;
+  short = c.requires.2;
+} in
     let l = c.list_orderings-plans in
     let r = c.run_orderings-limit in
     let w = c.write_entries in

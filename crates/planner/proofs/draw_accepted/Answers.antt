@@ -3,7 +3,6 @@
 use mathlib.Core.Path.{◌≡◌, sym, ◌∙◌}
 use Prim.Native.Nat.{◌<◌}
 use native.Mathlib.Omega.{arith}
-use borrow.Author.Rules.{rules}
 use Rattle.graph.specs.Store.{graph_in}
 use Rattle.query.specs.Inner.Struct.{query_in}
 use Rattle.plan.proofs.Sets.{edges-length}

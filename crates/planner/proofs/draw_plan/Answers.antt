@@ -1,7 +1,6 @@
 -- `planner::draw_plan` meets its contract. Assumes nothing.
 -- Past both tests the query is read and the store accepted.
 use mathlib.Core.Path.{◌≡◌, sym, ◌∙◌}
-use borrow.Author.Rules.{rules}
 use Rattle.graph.specs.Store.{store_fault}
 use Rattle.query.specs.File.{query_fault}
 use Rattle.query_file.proofs.FileLaws.{query_readable}
@@ -12,12 +11,16 @@ use Rattle.planner.proofs.draw_plan.Goals as goal
 
 pub returns-then-fault-ne0 : goal.returns-then-fault-ne0
 returns-then-fault-ne0 c = let a = c.args in
-    rw c.refused.ensures (settled-query a.store.now a.query.now a.plan.now _ c.query_fault-fault.ensures c.if-fault-ne0.true)
+    let s = settled-query a.store.now a.query.now a.plan.now _ c.query_fault-fault.ensures c.if-fault-ne0.true in
+    let e = c.refused.ensures in
+    record { answer = rw e s.0; bytes = s.1.0; checked = rw e s.1.1 }
 
 pub returns-then-fault-ne0-2 : goal.returns-then-fault-ne0-2
 returns-then-fault-ne0-2 c = let read : query_fault c.args.query.now ≡ 0 = sym c.query_fault-fault.ensures ∙ c.if-fault-ne0.false in
     let a = c.args in
-    rw c.refused-then-fault-ne0-2.ensures (settled-store a.store.now a.query.now a.plan.now (read) _ c.store_fault-fault.ensures c.if-fault-ne0-2.true)
+    let s = settled-store a.store.now a.query.now a.plan.now read _ c.store_fault-fault.ensures c.if-fault-ne0-2.true in
+    let e = c.refused-then-fault-ne0-2.ensures in
+    record { answer = rw e s.0; bytes = s.1.0; checked = rw e s.1.1 }
 
 pub query_of-requires : goal.query_of-requires
 query_of-requires c = let read : query_fault c.args.query.now ≡ 0 = sym c.query_fault-fault.ensures ∙ c.if-fault-ne0.false in
@@ -32,5 +35,7 @@ pub returns : goal.returns
 returns c = let read : query_fault c.args.query.now ≡ 0 = sym c.query_fault-fault.ensures ∙ c.if-fault-ne0.false in
     let good : store_fault c.args.store.now ≡ 0 = sym c.store_fault-fault.ensures ∙ c.if-fault-ne0-2.false in
     let a = c.args in
-    settled-drawn a.store.now a.query.now a.plan.now (read) (good) _ _
-    (rw (file-struct a.query.now) at (rw c.query_of.ensures at c.draw_accepted.ensures))
+    let s =
+    settled-drawn a.store.now a.query.now a.plan.now read good _ _
+    (rw (file-struct a.query.now) at (rw c.query_of.ensures at c.draw_accepted.ensures)) in
+    record { answer = s.0; bytes = s.1.0; checked = s.1.1 }

@@ -3,7 +3,6 @@ use mathlib.Core.Path.{sym, ◌∙◌}
 use Rattle.query.specs.Inner.Struct.{as_edge}
 use Rattle.query.proofs.Masks.{in-none}
 use Rattle.query.proofs.Touch.{from-source, from-target, from-neither}
-use borrow.Author.Rules.{rules}
 use Rattle.query.proofs.other_end.Goals as goal
 
 pub returns-then-e-v : goal.returns-then-e-v

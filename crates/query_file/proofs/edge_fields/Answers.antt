@@ -1,9 +1,7 @@
 -- `query_file::edge_fields` meets its contract: after i edges, the array has the field of these. Assumes nothing.
 use mathlib.Core.Path.{◌≡◌, refl}
-use mathlib.Core.List.{map}
-use Prim.Native.Nat.{◌-◌, ◌≤◌}
+use Prim.Native.Nat.{◌-◌}
 use native.Mathlib.Omega.{arith}
-use borrow.Author.Rules.{rules}
 use Rattle.lists.specs.Lists.{range}
 use Rattle.query.specs.File.{max_edges}
 use Rattle.query_file.specs.Inner.Parts.{edge_field}
@@ -17,9 +15,9 @@ loop-i-init c = (omega arith, refl)
 
 pub loop-i-preserved : goal.loop-i-preserved
 loop-i-preserved c = let a = c.args in (
-      omega arith,
-      padded-step (edge_field a.file.now a.at a.offset a.width) max_edges _ _ _ (omega arith) c.field.ensures c.loop-i.invariant.1,
-    )
+  omega arith,
+  padded-step (edge_field a.file.now a.at a.offset a.width) max_edges _ _ _ (omega arith) c.field.ensures c.loop-i.invariant.1,
+)
 
 pub returns : goal.returns
 returns c = let all : c.loop-i.i ≡ c.args.m = omega arith in

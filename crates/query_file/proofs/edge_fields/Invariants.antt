@@ -1,14 +1,11 @@
 -- `query_file::edge_fields` meets its contract: after i edges, the array has the field of these. Assumes nothing.
-use mathlib.Core.Path.{◌≡◌, refl}
+use mathlib.Core.Path.{◌≡◌}
 use mathlib.Core.List.{map}
 use Prim.Native.Nat.{◌-◌, ◌≤◌}
-use native.Mathlib.Omega.{arith}
-use borrow.Author.Rules.{rules}
 use Rattle.lists.specs.Lists.{range}
 use Rattle.query.specs.File.{max_edges}
 use Rattle.query_file.specs.Inner.Parts.{edge_field}
 use Rattle.query.specs.Answer.{padded}
-use Rattle.query.proofs.Images.{padded-step}
 use Rattle.query_file.proofs.edge_fields.Given as goal
 
 abbrev pub invariant-loop-i : goal.invariant-loop-i

@@ -2,7 +2,6 @@
 use mathlib.Core.Path.{◌≡◌, ◌∙◌, ap}
 use Prim.Native.Nat.{ℕ}
 use native.Mathlib.Omega.{arith}
-use borrow.Author.Rules.{rules}
 use Rattle.packed.specs.Field.{field_at}
 use Rattle.query.specs.File.{edge_count, edge_start}
 use Rattle.query_file.proofs.pair_count.Goals as goal

@@ -8,7 +8,6 @@ use Rattle.query.specs.Inner.Struct.{query_in}
 use Rattle.query.specs.declared.Query.{Query as QueryStruct}
 use Rattle.query_file.proofs.Structs.{file-struct, held}
 use Rattle.query_file.proofs.FileLaws.{query-first, query-last, file-readable}
-use borrow.Author.Rules.{rules}
 use Rattle.query_file.proofs.query_fault.Goals as goal
 
 pub returns-then-fault-ne0 : goal.returns-then-fault-ne0

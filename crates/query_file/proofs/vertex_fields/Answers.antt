@@ -1,9 +1,7 @@
 -- `query_file::vertex_fields` meets its contract: after w vertices, the array has the field of these. Assumes nothing.
 use mathlib.Core.Path.{◌≡◌, refl}
-use mathlib.Core.List.{map}
-use Prim.Native.Nat.{◌-◌, ◌≤◌}
+use Prim.Native.Nat.{◌-◌}
 use native.Mathlib.Omega.{arith}
-use borrow.Author.Rules.{rules}
 use Rattle.lists.specs.Lists.{range}
 use Rattle.query.specs.File.{max_vertices}
 use Rattle.query_file.specs.Inner.Parts.{vertex_field}
@@ -17,9 +15,9 @@ loop-w-init c = (omega arith, refl)
 
 pub loop-w-preserved : goal.loop-w-preserved
 loop-w-preserved c = let a = c.args in (
-      omega arith,
-      padded-step (vertex_field a.file.now a.offset) max_vertices _ _ _ (omega arith) c.field.ensures c.loop-w.invariant.1,
-    )
+  omega arith,
+  padded-step (vertex_field a.file.now a.offset) max_vertices _ _ _ (omega arith) c.field.ensures c.loop-w.invariant.1,
+)
 
 pub returns : goal.returns
 returns c = let all : c.loop-w.w ≡ c.args.n = omega arith in

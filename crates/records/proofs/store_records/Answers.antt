@@ -1,5 +1,5 @@
 -- `records::store_records` meets its contract: each turn stores the record of one operator. Assumes nothing.
-use Rattle.std.proofs.Common.{◌≡◌, sym, ap, ◌∙◌, List, ◌∷◌, ◌++◌, ◌+◌, ◌<◌, ◌≤◌, ℕ, [], suc, length, take, drop, get_or, set, arith, add-one, drop-cons, length-take-le}
+use Rattle.std.proofs.Common.{◌≡◌, sym, ap, ◌∙◌, List, ◌∷◌, ◌++◌, ◌+◌, ◌<◌, ℕ, suc, length, take, drop, get_or, set, arith, add-one, drop-cons, length-take-le}
 use Rattle.std.proofs.Math.Seq.{take-suc, append_snoc}
 use Rattle.std.proofs.lemmas.List.{set_at}
 use Rattle.run_spec.specs.declared.Record.{Record}

@@ -1,6 +1,5 @@
 -- `rizhavaan::rizhavaan_apply_changes` meets its contract: its numbers are the answer of Apply changes. Assumes nothing.
 use mathlib.Core.Path.{sym}
-use borrow.Author.Rules.{rules}
 use Rattle.changes.proofs.Loaded.{loads-edited}
 use Rattle.rizhavaan.proofs.rizhavaan_apply_changes.Goals as goal
 

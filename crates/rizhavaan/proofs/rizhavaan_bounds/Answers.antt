@@ -1,6 +1,5 @@
 -- `rizhavaan::rizhavaan_bounds` meets its contract: its numbers are those of the answer, and the promise is proved of every answer. Assumes nothing.
 use mathlib.Core.Path.{sym}
-use borrow.Author.Rules.{rules}
 use Rattle.plan_bounds.proofs.Promised.{never-short}
 use Rattle.rizhavaan.proofs.rizhavaan_bounds.Goals as goal
 

@@ -1,6 +1,5 @@
 -- `rizhavaan::rizhavaan_check_plan` meets its contract: its numbers are Check plan's answer. Assumes nothing.
 use mathlib.Core.Path.{sym}
-use borrow.Author.Rules.{rules}
 use Rattle.rizhavaan.proofs.rizhavaan_check_plan.Goals as goal
 
 pub returns : goal.returns

@@ -6,7 +6,6 @@ use native.Mathlib.Omega.{arith}
 use Rattle.sheet.specs.Page.{page_count, bad_rows}
 use Rattle.sheet.proofs.Refusals.{rows_right}
 use Rattle.sheet.proofs.Answers.{fault-33, rows-accepted, fault-34-low, fault-34-high, fault-35, fault-none, refused-left, accepted-left}
-use borrow.Author.Rules.{rules}
 use Rattle.sheet.proofs.Sheets.{sheets-hold-every-row}
 use Rattle.sheet.proofs.page.Goals as goal
 
@@ -20,14 +19,14 @@ returns-then-fault-ne0 c = let a = c.args in
 pub page_count-pages-requires : goal.page_count-pages-requires
 page_count-pages-requires c = let a = c.args in
     let f = c.rows_fault-fault in
-    let right : bad_rows a.list.now a.n a.rows ≡ false = 
+    let right : bad_rows a.list.now a.n a.rows ≡ false =
     rows-accepted a.list.now a.n a.rows a.page a.bytes.now f.result f.ensures c.if-fault-ne0.false in
     (rows_right a.list.now a.n a.rows right).few
 
 pub returns-then-page-lt1 : goal.returns-then-page-lt1
 returns-then-page-lt1 c = let a = c.args in
     let f = c.rows_fault-fault in
-    let right : bad_rows a.list.now a.n a.rows ≡ false = 
+    let right : bad_rows a.list.now a.n a.rows ≡ false =
     rows-accepted a.list.now a.n a.rows a.page a.bytes.now f.result f.ensures c.if-fault-ne0.false in
     let fault = fault-34-low a.list.now a.n a.rows a.page a.bytes.now right c.if-page-lt1.true in
     let l = refused-left a.list.now a.n a.rows a.page a.bytes.now 34 _ fault (λ z. omega arith) c.refused-then-page-lt1.ensures in
@@ -36,7 +35,7 @@ returns-then-page-lt1 c = let a = c.args in
 pub returns-then-pages-page : goal.returns-then-pages-page
 returns-then-pages-page c = let a = c.args in
     let f = c.rows_fault-fault in
-    let right : bad_rows a.list.now a.n a.rows ≡ false = 
+    let right : bad_rows a.list.now a.n a.rows ≡ false =
     rows-accepted a.list.now a.n a.rows a.page a.bytes.now f.result f.ensures c.if-fault-ne0.false in
     let high : page_count a.rows < a.page = subst (λ (k : ℕ). k < a.page) c.page_count-pages.ensures (omega arith) in
     let fault = fault-34-high a.list.now a.n a.rows a.page a.bytes.now right (omega arith) high in
@@ -46,7 +45,7 @@ returns-then-pages-page c = let a = c.args in
 pub returns-then-bytes-lt-BYTES : goal.returns-then-bytes-lt-BYTES
 returns-then-bytes-lt-BYTES c = let a = c.args in
     let f = c.rows_fault-fault in
-    let right : bad_rows a.list.now a.n a.rows ≡ false = 
+    let right : bad_rows a.list.now a.n a.rows ≡ false =
     rows-accepted a.list.now a.n a.rows a.page a.bytes.now f.result f.ensures c.if-fault-ne0.false in
     let high : a.page ≤ page_count a.rows = subst (λ (k : ℕ). a.page ≤ k) c.page_count-pages.ensures (omega arith) in
     let fault = fault-35 a.list.now a.n a.rows a.page a.bytes.now right (omega arith) high (omega arith) in
@@ -56,7 +55,7 @@ returns-then-bytes-lt-BYTES c = let a = c.args in
 pub put_page-requires : goal.put_page-requires
 put_page-requires c = let a = c.args in
     let f = c.rows_fault-fault in
-    let right : bad_rows a.list.now a.n a.rows ≡ false = 
+    let right : bad_rows a.list.now a.n a.rows ≡ false =
     rows-accepted a.list.now a.n a.rows a.page a.bytes.now f.result f.ensures c.if-fault-ne0.false in
     record {
       rows_right = right;
@@ -69,7 +68,7 @@ put_page-requires c = let a = c.args in
 pub returns : goal.returns
 returns c = let a = c.args in
     let f = c.rows_fault-fault in
-    let right : bad_rows a.list.now a.n a.rows ≡ false = 
+    let right : bad_rows a.list.now a.n a.rows ≡ false =
     rows-accepted a.list.now a.n a.rows a.page a.bytes.now f.result f.ensures c.if-fault-ne0.false in
     let high : a.page ≤ page_count a.rows = subst (λ (k : ℕ). a.page ≤ k) c.page_count-pages.ensures (omega arith) in
     let fault = fault-none a.list.now a.n a.rows a.page a.bytes.now right (omega arith) high (omega arith) in

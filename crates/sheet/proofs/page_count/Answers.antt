@@ -1,6 +1,5 @@
 -- `sheet::page_count` meets its contract. Assumes nothing.
 use native.Mathlib.Omega.{arith}
-use borrow.Author.Rules.{rules}
 use Rattle.sheet.specs.Page.{page_count}
 use Rattle.sheet.proofs.page_count.Goals as goal
 

@@ -2,7 +2,6 @@
 use native.Mathlib.Omega.{arith}
 use Prim.Native.Nat.{◌-◌}
 use Rattle.sheet.proofs.Written.{begins, begins-small, heading-asked, rows_end, rows-small, rows-asked, page-whole}
-use borrow.Author.Rules.{rules}
 use Rattle.sheet.proofs.put_page.Goals as goal
 
 pub put_heading-requires : goal.put_heading-requires

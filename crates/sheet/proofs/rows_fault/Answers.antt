@@ -4,7 +4,6 @@ use native.Mathlib.Omega.{arith}
 use lib.Seq.{length-take-le}
 use Rattle.lists.specs.Refusal.{refuse}
 use Rattle.sheet.proofs.Refusals.{product_small, bad-low, bad-high, bad-many, bad-short, bad-word}
-use borrow.Author.Rules.{rules}
 use Rattle.sheet.proofs.rows_fault.Goals as goal
 
 pub returns-then-n-lt-MIN_VERTICES : goal.returns-then-n-lt-MIN_VERTICES

@@ -1,6 +1,5 @@
 -- `store_check::counts_fault` meets its contract: each test is one of `Counts`. Assumes nothing.
 use native.Mathlib.Omega.{arith}
-use borrow.Author.Rules.{rules}
 use Rattle.store_check.proofs.Counting.{counts-refused, fit-counts}
 use Rattle.store_reverse.proofs.Loops.{passes}
 use Rattle.store_check.proofs.counts_fault.Goals as goal

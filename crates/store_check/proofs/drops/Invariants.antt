@@ -1,10 +1,7 @@
 -- `store_check::drops` meets its contract: the words up to i are counted. Assumes nothing.
-use mathlib.Core.Path.{◌≡◌, subst}
-use Prim.Native.Nat.{ℕ, ◌-◌, ◌≤◌, ◌<◌}
-use native.Mathlib.Omega.{arith}
+use Prim.Native.Nat.{◌-◌, ◌≤◌, ◌<◌}
 use lib.ListN.{length}
 use Rattle.store_check.specs.Inner.Order.{Drops}
-use Rattle.store_check.proofs.Dropping.{drops-start, drops-next}
 use Rattle.store_check.proofs.drops.Given as goal
 
 abbrev pub invariant-loop-i : goal.invariant-loop-i

@@ -1,12 +1,9 @@
 -- `store_check::entries_faults` meets its contract: the sum is that of the entries before i. Assumes nothing.
-use mathlib.Core.Path.{◌≡◌, refl, sym, ◌∙◌, ap, ap₂}
-use Prim.Native.Nat.{ℕ, ◌+◌, ◌*◌, ◌-◌, ◌≤◌}
-use native.Mathlib.Omega.{arith}
+use mathlib.Core.Path.{◌≡◌}
+use Prim.Native.Nat.{◌*◌, ◌-◌, ◌≤◌}
 use lib.ListN.{length, take}
-use lib.Seq.{take_all}
 use Rattle.lists.specs.Lists.{total}
 use Rattle.store_check.specs.Inner.Order.{faults_of}
-use Rattle.store_check.proofs.Order.{total-next}
 use Rattle.store_check.proofs.entries_faults.Given as goal
 
 abbrev pub invariant-loop-i : goal.invariant-loop-i

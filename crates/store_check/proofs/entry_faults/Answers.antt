@@ -4,7 +4,6 @@ use native.Mathlib.Omega.{arith}
 use mathlib.Core.Path.{refl}
 use lib.Dec.{leb, ltb}
 use Rattle.lists.proofs.Bits.{bit_le}
-use borrow.Author.Rules.{rules}
 use Rattle.store_check.proofs.entry_faults.Goals as goal
 
 pub overflow_add-result : goal.overflow_add-result

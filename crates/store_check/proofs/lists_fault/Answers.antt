@@ -1,7 +1,6 @@
 -- `store_check::lists_fault` meets its contract: the ranges of all entries, and then the order within lists. Assumes nothing.
 use Rattle.store_reverse.proofs.Offsets.{offsets-rising, offsets-within}
 use Rattle.store_check.proofs.Order.{ranges-refuse, order-refuses, order-passes}
-use borrow.Author.Rules.{rules}
 use Rattle.store_check.proofs.lists_fault.Goals as goal
 
 pub returns-then-entries_faults-ne0 : goal.returns-then-entries_faults-ne0
@@ -9,10 +8,10 @@ returns-then-entries_faults-ne0 c = ranges-refuse c.args.store.now c.args.n c.ar
 
 pub starts_fall-requires : goal.starts_fall-requires
 starts_fall-requires c = let room = c.requires.m_in_bounds.0 in (
-      offsets-within c.args.store.now c.args.n c.args.m c.args.side room
-          (offsets-rising c.args.store.now c.args.n c.args.m c.args.side room c.requires.m_in_bounds.1),
-      c.requires.n_bound.0,
-    )
+  offsets-within c.args.store.now c.args.n c.args.m c.args.side room
+      (offsets-rising c.args.store.now c.args.n c.args.m c.args.side room c.requires.m_in_bounds.1),
+  c.requires.n_bound.0,
+)
 
 pub returns-then-falls-starts_fall : goal.returns-then-falls-starts_fall
 returns-then-falls-starts_fall c = order-refuses c.args.store.now c.args.n c.args.m c.args.side c.requires.m_in_bounds.0 c.requires.m_in_bounds.1 c.entries_faults.ensures

@@ -1,7 +1,6 @@
 -- `store_check::offsets_fault` meets its contract: a failed test refuses the offsets, and with none failed they rise from 0 to m. Assumes nothing.
 use Rattle.store_reverse.proofs.Loops.{offsets-first}
 use Rattle.store_check.proofs.Dropping.{drops-off, last_off, offsets-right}
-use borrow.Author.Rules.{rules}
 use Rattle.store_check.proofs.offsets_fault.Goals as goal
 
 pub returns-then-part-ne0 : goal.returns-then-part-ne0

@@ -1,13 +1,10 @@
 -- `store_check::reversed_list_fault` meets its contract: the entries before i ascend up to `last`, fit, and have their reverses.
 -- Assumes nothing.
-use Prim.Native.Nat.{ℕ, ◌-◌, ◌%◌, ◌<◌}
+use Prim.Native.Nat.{◌-◌, ◌%◌, ◌<◌}
 use native.Mathlib.Omega.{arith}
-use borrow.Author.Rules.{rules}
-use lib.ListN.{length, get_or}
-use Rattle.adjacency.specs.Inner.Side.{list_on}
-use Rattle.adjacency.specs.Inner.Portion.{member}
-use Rattle.store_reverse.specs.Inner.Check.{reverse, list_fits, list_reversed}
-use Rattle.store_reverse.proofs.Loops.{AllFrom, all_start, all-goes, all-halts, all_end, ListFrom, list-start, list-next, list-stop, list-end, entry_in_lem, both-pass, one-fails, other-fails}
+use lib.ListN.{get_or}
+use Rattle.store_reverse.specs.Inner.Check.{list_fits, list_reversed}
+use Rattle.store_reverse.proofs.Loops.{all_start, all-goes, all-halts, all_end, list-start, list-next, list-stop, list-end, entry_in_lem, both-pass, one-fails, other-fails}
 use Rattle.store_reverse.proofs.Fits.{side-ascends}
 use Rattle.store_check.proofs.reversed_list_fault.Goals as goal
 
@@ -41,9 +38,9 @@ returns-then-fault-ne0-2 c = other-fails (list_fits c.args.n c.args.list.now) (l
 
 pub loop-i-preserved : goal.loop-i-preserved
 loop-i-preserved c = (
-      list-next c.loop-i.invariant.0 (omega arith) c.entry_fault-fault.ensures c.if-fault-ne0.false,
-      all-goes c.loop-i.invariant.1 (omega arith) (rw c.neighbours.ensures at c.hinted_fault-fault.ensures) c.if-fault-ne0-2.false,
-    )
+  list-next c.loop-i.invariant.0 (omega arith) c.entry_fault-fault.ensures c.if-fault-ne0.false,
+  all-goes c.loop-i.invariant.1 (omega arith) (rw c.neighbours.ensures at c.hinted_fault-fault.ensures) c.if-fault-ne0-2.false,
+)
 
 pub returns : goal.returns
 unfolding list_reversed

@@ -1,11 +1,8 @@
 -- `store_check::reversed_lists_fault` meets its contract: the lists of the vertices below v fit, and have their reverses. Assumes nothing.
-use Prim.Native.Nat.{ℕ, ◌-◌}
+use Prim.Native.Nat.{◌-◌}
 use native.Mathlib.Omega.{arith}
 use mathlib.Core.Path.{◌∙◌}
-use mathlib.Core.Bool.{◌&&◌}
-use Rattle.adjacency.specs.Inner.Side.{list_on}
-use Rattle.store_reverse.specs.Inner.Check.{list_fits, list_reversed}
-use Rattle.store_reverse.proofs.Loops.{AllBelow, lists-both, below-start, below_next, below-stop, below_end}
+use Rattle.store_reverse.proofs.Loops.{lists-both, below-start, below_next, below-stop, below_end}
 use Rattle.store_check.proofs.reversed_lists_fault.Goals as goal
 
 pub loop-v-init : goal.loop-v-init

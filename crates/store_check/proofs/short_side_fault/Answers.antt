@@ -4,7 +4,6 @@ use mathlib.Core.Bool.{Bool, true, ◌&&◌}
 use native.Mathlib.Omega.{arith}
 use Rattle.store_reverse.specs.Inner.Check.{unless, side_fits, side_reversed}
 use Rattle.store_reverse.proofs.Loops.{one-fails, answer-passes}
-use borrow.Author.Rules.{rules}
 use Rattle.store_check.proofs.short_side_fault.Goals as goal
 
 pub returns-then-fault-ne0 : goal.returns-then-fault-ne0

@@ -1,6 +1,5 @@
 -- `store_check::side_offsets_fault` meets its contract: it tests the part of the store that holds them. Assumes nothing.
 use mathlib.Core.Path.{◌∙◌}
-use borrow.Author.Rules.{rules}
 use Rattle.store_check.proofs.Decided.{offsets-part}
 use Rattle.store_check.proofs.side_offsets_fault.Goals as goal
 

@@ -1,6 +1,5 @@
 -- `store_check::start_falls` meets its contract: a list with no word has no first. Assumes nothing.
 use native.Mathlib.Omega.{arith}
-use borrow.Author.Rules.{rules}
 use Rattle.store_check.proofs.Order.{start_none, start-some}
 use Rattle.store_check.proofs.start_falls.Goals as goal
 

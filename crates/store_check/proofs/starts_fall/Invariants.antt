@@ -1,10 +1,8 @@
 -- `store_check::starts_fall` meets its contract: the sum is that of the lists of the vertices below v. Assumes nothing.
-use mathlib.Core.Path.{◌≡◌, refl, ◌∙◌, ap}
-use Prim.Native.Nat.{ℕ, ◌-◌, ◌≤◌}
-use native.Mathlib.Omega.{arith}
+use mathlib.Core.Path.{◌≡◌}
+use Prim.Native.Nat.{◌-◌, ◌≤◌}
 use Rattle.lists.specs.Lists.{range, count_if}
 use Rattle.store_check.specs.Inner.Order.{start_falls}
-use Rattle.store_check.proofs.Order.{starts-next}
 use Rattle.store_check.proofs.starts_fall.Given as goal
 
 abbrev pub invariant-loop-v : goal.invariant-loop-v

@@ -1,6 +1,5 @@
 -- `store_check::store_fault` meets its contract: the counts, the labels and the days, and then the rest. Assumes nothing.
 use native.Mathlib.Omega.{arith}
-use borrow.Author.Rules.{rules}
 use Rattle.store_check.proofs.Counting.{counts-passed, fit-counts}
 use Rattle.store_check.proofs.Decided.{counts-refuse, vertices-refuse, vertices-pass}
 use Rattle.store_check.proofs.store_fault.Goals as goal
@@ -31,10 +30,13 @@ pub backward-requires : goal.backward-requires
 backward-requires c = omega (arith, counts-passed c.args.store.now c.counts_fault-counts.ensures c.if-counts-ne0.false)
 
 pub sides_fault-requires : goal.sides_fault-requires
-sides_fault-requires c = let s = c.args.store.now in record { counted = record {
-        counts = fit-counts s (counts-passed s c.counts_fault-counts.ensures c.if-counts-ne0.false);
-        vertices = omega arith;
-        edges = omega arith;
-        forward_at = omega arith;
-        backward_at = omega arith;
-      }; store_value = vertices-pass s c.vertices_fault-vertices.ensures c.if-vertices-ne0.false }
+sides_fault-requires c = let s = c.args.store.now in record {
+  counted = record {
+    counts = fit-counts s (counts-passed s c.counts_fault-counts.ensures c.if-counts-ne0.false);
+    vertices = omega arith;
+    edges = omega arith;
+    forward_at = omega arith;
+    backward_at = omega arith;
+  };
+  store_value = vertices-pass s c.vertices_fault-vertices.ensures c.if-vertices-ne0.false;
+}

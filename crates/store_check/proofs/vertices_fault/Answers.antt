@@ -1,6 +1,5 @@
 -- `store_check::vertices_fault` meets its contract: where the labels fit, the days decide. Assumes nothing.
 use mathlib.Core.Path.{◌∙◌}
-use borrow.Author.Rules.{rules}
 use Rattle.store_reverse.specs.Inner.Check.{labels_fit, days_fit}
 use Rattle.store_reverse.proofs.Loops.{one-fails}
 use Rattle.store_check.proofs.Decided.{labels-part, days-part, days-decide}

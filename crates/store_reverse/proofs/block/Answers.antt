@@ -4,7 +4,6 @@ use Prim.Native.Nat.{ℕ, ◌+◌, ◌-◌}
 use native.Mathlib.Omega.{arith}
 use lib.ListN.{length, take, drop, length-drop}
 use lib.Seq.{take_all}
-use borrow.Author.Rules.{rules}
 use Rattle.store_reverse.proofs.block.Goals as goal
 
 pub returns-then-entries-base-lt-BLOCK : goal.returns-then-entries-base-lt-BLOCK

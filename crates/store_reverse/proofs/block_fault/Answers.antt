@@ -1,11 +1,7 @@
 -- `store_reverse::block_fault` meets its contract: the entries before j have their reverses. Assumes nothing.
-use Prim.Native.Nat.{ℕ, ◌-◌, ◌%◌}
+use Prim.Native.Nat.{◌-◌}
 use native.Mathlib.Omega.{arith}
-use lib.ListN.{length, get_or}
-use Rattle.adjacency.specs.Inner.Side.{list_on}
-use Rattle.adjacency.specs.Inner.Portion.{member}
-use Rattle.store_reverse.specs.Inner.Check.{reverse}
-use Rattle.store_reverse.proofs.Loops.{AllBelow, below-start, below_next, below-stop, below_end}
+use Rattle.store_reverse.proofs.Loops.{below-start, below_next, below-stop, below_end}
 use Rattle.store_reverse.proofs.block_fault.Goals as goal
 
 pub loop-j-init : goal.loop-j-init

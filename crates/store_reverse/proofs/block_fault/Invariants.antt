@@ -1,11 +1,10 @@
 -- `store_reverse::block_fault` meets its contract: the entries before j have their reverses. Assumes nothing.
 use Prim.Native.Nat.{ℕ, ◌-◌, ◌%◌}
-use native.Mathlib.Omega.{arith}
 use lib.ListN.{length, get_or}
 use Rattle.adjacency.specs.Inner.Side.{list_on}
 use Rattle.adjacency.specs.Inner.Portion.{member}
 use Rattle.store_reverse.specs.Inner.Check.{reverse}
-use Rattle.store_reverse.proofs.Loops.{AllBelow, below-start, below_next, below-stop, below_end}
+use Rattle.store_reverse.proofs.Loops.{AllBelow}
 use Rattle.store_reverse.proofs.block_fault.Given as goal
 
 abbrev pub invariant-loop-j : goal.invariant-loop-j

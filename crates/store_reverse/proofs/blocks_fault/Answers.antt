@@ -1,10 +1,9 @@
 -- `store_reverse::blocks_fault` meets its contract: the entries of the blocks before `base` have their reverses. Assumes nothing.
-use mathlib.Core.Path.{◌≡◌, sym, ◌∙◌, ap}
-use Prim.Native.Nat.{◌+◌, ◌-◌}
+use mathlib.Core.Path.{◌∙◌, ap}
+use Prim.Native.Nat.{◌-◌}
 use native.Mathlib.Omega.{arith}
 use lib.ListN.{length}
-use Rattle.store_reverse.specs.Inner.Begun.{Flat}
-use Rattle.store_reverse.proofs.Reverses.{Tested, tested-none, block-begins, block-fits, block-refuses, tested-more, tested-all, length-begun, few-begun}
+use Rattle.store_reverse.proofs.Reverses.{tested-none, block-begins, block-fits, block-refuses, tested-more, tested-all, length-begun, few-begun}
 use Rattle.store_reverse.proofs.blocks_fault.Goals as goal
 
 pub loop-base-init : goal.loop-base-init

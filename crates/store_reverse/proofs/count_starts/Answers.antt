@@ -1,10 +1,9 @@
 -- `store_reverse::count_starts` meets its contract: the lists of the vertices below v are counted. Assumes nothing.
-use mathlib.Core.Path.{refl, sym, ◌∙◌, ap}
+use mathlib.Core.Path.{refl, ◌∙◌, ap}
 use Prim.Native.Nat.{ℕ, ◌-◌, ◌≤◌, ◌<◌}
 use native.Mathlib.Omega.{arith}
-use borrow.Author.Rules.{rules}
-use lib.ListN.{length, get_or, replicate}
-use Rattle.counting_sort.proofs.Counting.{Tallied, tallied-fits, tallied-more}
+use lib.ListN.{get_or, replicate}
+use Rattle.counting_sort.proofs.Counting.{tallied-fits, tallied-more}
 use Rattle.store_reverse.specs.Inner.Begun.{start_in}
 use Rattle.store_reverse.proofs.Blocks.{next-few, start_small, not-before, tallied-first, tallied-passed, tallied-all}
 use Rattle.store_reverse.proofs.count_starts.Goals as goal

@@ -6,7 +6,6 @@ use lib.ListN.{length}
 use Rattle.store_reverse.proofs.Loops.{refused, passes}
 use Rattle.words.proofs.Zeros.{byte_le}
 use Rattle.store_reverse.proofs.Few.{places-in, lacks-none, few-lacks, few-has}
-use borrow.Author.Rules.{rules}
 use Rattle.store_reverse.proofs.few_fault.Goals as goal
 
 pub returns-then-list-eq0 : goal.returns-then-list-eq0

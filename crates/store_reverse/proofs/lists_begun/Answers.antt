@@ -1,5 +1,4 @@
 -- `store_reverse::lists_begun` meets its contract: the sums of the counts. Assumes nothing.
-use borrow.Author.Rules.{rules}
 use Rattle.store_reverse.proofs.Blocks.{begun-sums, sums-low}
 use Rattle.store_reverse.proofs.lists_begun.Goals as goal
 

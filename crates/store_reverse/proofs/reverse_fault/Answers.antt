@@ -2,7 +2,6 @@
 use mathlib.Core.Path.{◌∙◌}
 use native.Mathlib.Omega.{arith}
 use Rattle.store_reverse.proofs.Fits.{side-ascends}
-use borrow.Author.Rules.{rules}
 use Rattle.store_reverse.proofs.reverse_fault.Goals as goal
 
 pub neighbours-list-requires : goal.neighbours-list-requires

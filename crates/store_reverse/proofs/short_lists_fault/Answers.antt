@@ -1,7 +1,6 @@
 -- `store_reverse::short_lists_fault` meets its contract: the entries decide as the lists do. Assumes nothing.
 use mathlib.Core.Path.{refl, ◌∙◌}
 use Rattle.store_reverse.proofs.Reverses.{side-flat, same-reverses}
-use borrow.Author.Rules.{rules}
 use Rattle.store_reverse.proofs.short_lists_fault.Goals as goal
 
 pub blocks_fault-requires : goal.blocks_fault-requires

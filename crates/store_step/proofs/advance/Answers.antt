@@ -1,7 +1,6 @@
 -- `store_step::advance` meets its contract: what was known before the step is known after it. Assumes nothing.
 use native.Mathlib.Omega.{arith}
 use Rattle.store_step.proofs.Stepping.{undecided, holds, begins-inside, walked_step, verdict-outcome}
-use borrow.Author.Rules.{rules}
 use Rattle.store_step.proofs.advance.Goals as goal
 
 pub neighbours-list-requires : goal.neighbours-list-requires
@@ -16,24 +15,24 @@ returns-then-i c = record { outcome = undecided; narrow = omega arith }
 
 pub returns-then-i-list : goal.returns-then-i-list
 returns-then-i-list c = record {
-      outcome = holds
-          (walked_step c.requires.sides c.requires.step_from c.neighbours-list.ensures c.wide_count.ensures c.matched-i.ensures);
-      narrow = omega arith;
-    }
+  outcome = holds
+      (walked_step c.requires.sides c.requires.step_from c.neighbours-list.ensures c.wide_count.ensures c.matched-i.ensures);
+  narrow = omega arith;
+}
 
 pub returns-then-entry-lt-ENTRY_END : goal.returns-then-entry-lt-ENTRY_END
 returns-then-entry-lt-ENTRY_END c = record {
-      outcome = holds
-          (walked_step c.requires.sides c.requires.step_from c.neighbours-list.ensures c.wide_count.ensures c.matched-i.ensures);
-      narrow = omega arith;
-    }
+  outcome = holds
+      (walked_step c.requires.sides c.requires.step_from c.neighbours-list.ensures c.wide_count.ensures c.matched-i.ensures);
+  narrow = omega arith;
+}
 
 pub verdict-fault-requires : goal.verdict-fault-requires
 verdict-fault-requires c = (c.requires.sides.others, c.requires.step_from.vertex_in, c.requires.sides.few, omega (arith, c.matched-i.ensures.inside))
 
 pub returns : goal.returns
 returns c = record {
-      outcome = verdict-outcome c.requires.sides c.requires.step_from c.neighbours-list.ensures
-          (walked_step c.requires.sides c.requires.step_from c.neighbours-list.ensures c.wide_count.ensures c.matched-i.ensures) c.verdict-fault.ensures;
-      narrow = omega arith;
-    }
+  outcome = verdict-outcome c.requires.sides c.requires.step_from c.neighbours-list.ensures
+      (walked_step c.requires.sides c.requires.step_from c.neighbours-list.ensures c.wide_count.ensures c.matched-i.ensures) c.verdict-fault.ensures;
+  narrow = omega arith;
+}

@@ -1,5 +1,4 @@
 -- `store_step::entry_before` meets its contract. Assumes nothing.
-use borrow.Author.Rules.{rules}
 use Rattle.store_step.proofs.Agreeing.{before-first, before-later}
 use Rattle.store_step.proofs.entry_before.Goals as goal
 

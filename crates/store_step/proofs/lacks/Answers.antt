@@ -1,9 +1,8 @@
 -- `store_step::lacks` meets its contract: no word before i is the one that is looked for. Assumes nothing.
-use mathlib.Core.Path.{◌≡◌, refl}
-use Prim.Native.Nat.{ℕ, ◌≤◌, ◌<◌, ◌-◌}
+use mathlib.Core.Path.{refl}
+use Prim.Native.Nat.{◌-◌}
 use native.Mathlib.Omega.{arith}
 use borrow.Author.Count.{below_more}
-use lib.ListN.{length, get_or}
 use Rattle.store_step.proofs.Agreeing.{none-member}
 use Rattle.store_step.proofs.lacks.Goals as goal
 

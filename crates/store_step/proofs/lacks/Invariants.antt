@@ -1,10 +1,7 @@
 -- `store_step::lacks` meets its contract: no word before i is the one that is looked for. Assumes nothing.
-use mathlib.Core.Path.{◌≡◌, refl}
+use mathlib.Core.Path.{◌≡◌}
 use Prim.Native.Nat.{ℕ, ◌≤◌, ◌<◌, ◌-◌}
-use native.Mathlib.Omega.{arith}
-use borrow.Author.Count.{below_more}
 use lib.ListN.{length, get_or}
-use Rattle.store_step.proofs.Agreeing.{none-member}
 use Rattle.store_step.proofs.lacks.Given as goal
 
 abbrev pub invariant-loop-i : goal.invariant-loop-i

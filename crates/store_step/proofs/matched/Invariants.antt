@@ -1,9 +1,7 @@
 -- `store_step::matched` meets its contract: the entries up to i are matched, and `last` is the last of them. Assumes nothing.
 use Prim.Native.Nat.{◌-◌}
-use native.Mathlib.Omega.{arith}
-use borrow.Author.Rules.{rules}
 use lib.ListN.{length}
-use Rattle.store_step.proofs.Matching.{Matching, matching-start, matching-next}
+use Rattle.store_step.proofs.Matching.{Matching}
 use Rattle.store_step.proofs.matched.Reads as reads
 use Rattle.store_step.proofs.matched.Lts as lts
 use Rattle.store_step.proofs.wide.Reads as wide-reads

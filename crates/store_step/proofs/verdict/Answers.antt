@@ -4,7 +4,6 @@ use Prim.Native.Nat.{◌%◌, ◌<◌}
 use lib.ListN.{get_or}
 use Rattle.store_reverse.proofs.Loops.{entry_in_lem}
 use Rattle.store_step.proofs.Agreeing.{entry-refutes, reverse-refutes}
-use borrow.Author.Rules.{rules}
 use Rattle.store_step.proofs.verdict.Goals as goal
 
 pub returns-then-fault-ne0 : goal.returns-then-fault-ne0

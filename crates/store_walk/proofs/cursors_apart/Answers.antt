@@ -1,10 +1,8 @@
 -- `store_walk::cursors_apart` meets its contract: where none of the cursors before i is apart, they stand at their ends.
 -- Assumes nothing.
-use mathlib.Core.Path.{◌≡◌}
-use Prim.Native.Nat.{ℕ, ◌-◌, ◌≤◌, ◌<◌}
+use Prim.Native.Nat.{◌-◌}
 use native.Mathlib.Omega.{arith}
 use borrow.Author.Count.{below_more}
-use lib.ListN.{length, get_or}
 use Rattle.store_walk.proofs.cursors_apart.Goals as goal
 
 pub loop-i-init : goal.loop-i-init

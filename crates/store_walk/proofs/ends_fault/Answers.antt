@@ -1,7 +1,6 @@
 -- `store_walk::ends_fault` meets its contract: the answers to its two tests. Assumes nothing.
 use native.Mathlib.Omega.{arith}
 use Rattle.store_walk.proofs.Finished.{offsets-long, offsets-small, at_end, not-ended}
-use borrow.Author.Rules.{rules}
 use Rattle.store_walk.proofs.ends_fault.Goals as goal
 
 pub returns-then-cursors_apart-ne0 : goal.returns-then-cursors_apart-ne0

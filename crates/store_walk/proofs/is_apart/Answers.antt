@@ -4,7 +4,6 @@ use lib.Dec.{eqb}
 use lib.ListN.{get_or}
 use Rattle.words.proofs.Zeros.{byte_le}
 use Rattle.store_walk.proofs.Sums.{no_difference}
-use borrow.Author.Rules.{rules}
 use Rattle.store_walk.proofs.is_apart.Goals as goal
 
 pub returns : goal.returns

@@ -7,7 +7,6 @@ use lib.ListN.{get_or}
 use native.Mathlib.Numerals.{add-one}
 use Rattle.words.proofs.Zeros.{byte_le}
 use Rattle.store_walk.proofs.Sums.{none_below}
-use borrow.Author.Rules.{rules}
 use Rattle.store_walk.proofs.is_left.Goals as goal
 
 pub overflow_cast-result : goal.overflow_cast-result

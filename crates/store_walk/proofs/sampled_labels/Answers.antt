@@ -1,7 +1,6 @@
 -- `store_walk::sampled_labels` meets its contract: no more labels are counted than few. Assumes nothing.
-use Prim.Native.Nat.{◌+◌, ◌-◌, ◌≤◌}
+use Prim.Native.Nat.{◌-◌}
 use native.Mathlib.Omega.{arith}
-use lib.ListN.{length}
 use Rattle.store_walk.proofs.sampled_labels.Goals as goal
 
 pub loop-i-init : goal.loop-i-init

@@ -1,6 +1,5 @@
 -- `store_walk::sampled_labels` meets its contract: no more labels are counted than few. Assumes nothing.
 use Prim.Native.Nat.{◌+◌, ◌-◌, ◌≤◌}
-use native.Mathlib.Omega.{arith}
 use lib.ListN.{length}
 use Rattle.store_walk.proofs.sampled_labels.Given as goal
 

@@ -2,7 +2,6 @@
 use mathlib.Core.Path.{refl}
 use native.Mathlib.Omega.{arith}
 use Rattle.store_step.proofs.Stepping.{tables-made, none_done}
-use borrow.Author.Rules.{rules}
 use Rattle.store_walk.proofs.some_vertices_fault.Goals as goal
 
 pub walk_fault-requires : goal.walk_fault-requires

@@ -1,10 +1,8 @@
 -- `store_walk::vertices_left` meets its contract: where none of the vertices below v has entries left, all theirs are done.
 -- Assumes nothing.
-use mathlib.Core.Path.{◌≡◌}
-use Prim.Native.Nat.{ℕ, suc, ◌+◌, ◌-◌, ◌≤◌, ◌<◌}
+use Prim.Native.Nat.{◌-◌}
 use native.Mathlib.Omega.{arith}
 use borrow.Author.Count.{below_more}
-use lib.ListN.{get_or}
 use Rattle.store_walk.proofs.vertices_left.Goals as goal
 
 pub loop-v-init : goal.loop-v-init

@@ -1,5 +1,4 @@
 -- `trace::print_row` is safe and ends. Assumes nothing.
-use borrow.Author.Rules.{rules}
 use Prim.Native.Nat.{◌-◌}
 use lib.ListN.{length}
 use Rattle.trace.proofs.print_row.Given as goal

@@ -1,5 +1,4 @@
 -- `trace::print_rows` is safe and ends. Assumes nothing.
-use borrow.Author.Rules.{rules}
 use Prim.Native.Nat.{◌-◌}
 use Rattle.trace.proofs.print_rows.Given as goal
 

@@ -1,12 +1,11 @@
 -- `words::clear` meets its contract: the first i words are 0. Assumes nothing.
 use mathlib.Core.Path.{◌≡◌, sym, ◌∙◌, ap, ap₂}
 use mathlib.Core.List.{List, ◌++◌, append-nil}
-use Prim.Native.Nat.{ℕ, ◌-◌, ◌≤◌, ◌<◌}
+use Prim.Native.Nat.{ℕ, ◌-◌, ◌<◌}
 use native.Mathlib.Omega.{arith}
 use lib.ListN.{length, take, drop, replicate, length-replicate, get_or-replicate}
 use lib.Seq.{take-length, drop-length}
-use borrow.Author.Rules.{rules}
-use Rattle.words.proofs.Copying.{Copied, start, next, done}
+use Rattle.words.proofs.Copying.{start, next, done}
 use Rattle.words.proofs.clear.Goals as goal
 
 zeros : (l : List ℕ) → take (length l) (replicate (length l) 0) ++ drop (length l) l ≡ replicate (length l) 0

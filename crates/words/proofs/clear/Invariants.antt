@@ -1,12 +1,7 @@
 -- `words::clear` meets its contract: the first i words are 0. Assumes nothing.
-use mathlib.Core.Path.{◌≡◌, sym, ◌∙◌, ap, ap₂}
-use mathlib.Core.List.{List, ◌++◌, append-nil}
-use Prim.Native.Nat.{ℕ, ◌-◌, ◌≤◌, ◌<◌}
-use native.Mathlib.Omega.{arith}
-use lib.ListN.{length, take, drop, replicate, length-replicate, get_or-replicate}
-use lib.Seq.{take-length, drop-length}
-use borrow.Author.Rules.{rules}
-use Rattle.words.proofs.Copying.{Copied, start, next, done}
+use Prim.Native.Nat.{◌-◌, ◌≤◌}
+use lib.ListN.{length, replicate}
+use Rattle.words.proofs.Copying.{Copied}
 use Rattle.words.proofs.clear.Given as goal
 
 abbrev pub invariant-loop-i : goal.invariant-loop-i

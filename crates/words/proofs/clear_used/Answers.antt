@@ -5,7 +5,6 @@ use Prim.Native.Nat.{ℕ}
 use lib.ListN.{drop}
 use lib.Seq.{length-take-le}
 use Rattle.words.proofs.Zeros.{zeros-before}
-use borrow.Author.Rules.{rules}
 use Rattle.words.proofs.clear_used.Goals as goal
 
 pub slice_bounds-clear-end-2 : goal.slice_bounds-clear-end-2

@@ -1,9 +1,8 @@
 -- `words::copy` meets its contract: the first i words are the other slice's. Assumes nothing.
 use mathlib.Core.Path.{refl}
-use Prim.Native.Nat.{◌-◌, ◌≤◌}
+use Prim.Native.Nat.{◌-◌}
 use native.Mathlib.Omega.{arith}
-use borrow.Author.Rules.{rules}
-use Rattle.words.proofs.Copying.{Copied, start, next, done}
+use Rattle.words.proofs.Copying.{start, next, done}
 use Rattle.words.proofs.copy.Goals as goal
 
 pub loop-i-init : goal.loop-i-init

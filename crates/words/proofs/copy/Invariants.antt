@@ -1,9 +1,6 @@
 -- `words::copy` meets its contract: the first i words are the other slice's. Assumes nothing.
-use mathlib.Core.Path.{refl}
 use Prim.Native.Nat.{◌-◌, ◌≤◌}
-use native.Mathlib.Omega.{arith}
-use borrow.Author.Rules.{rules}
-use Rattle.words.proofs.Copying.{Copied, start, next, done}
+use Rattle.words.proofs.Copying.{Copied}
 use Rattle.words.proofs.copy.Given as goal
 
 abbrev pub invariant-loop-i : goal.invariant-loop-i

@@ -3,7 +3,6 @@ use mathlib.Core.Bool.{not}
 use lib.Dec.{eqb}
 use lib.ListN.{get_or}
 use Rattle.words.proofs.Zeros.{unset, byte_le}
-use borrow.Author.Rules.{rules}
 use Rattle.words.proofs.is_set.Goals as goal
 
 pub returns : goal.returns

@@ -1,9 +1,7 @@
 -- `words::set_words` meets its contract: where none of the words before i is set, they are 0. Assumes nothing.
-use mathlib.Core.Path.{◌≡◌}
-use Prim.Native.Nat.{◌-◌, ◌≤◌}
+use Prim.Native.Nat.{◌-◌}
 use native.Mathlib.Omega.{arith}
-use lib.ListN.{length}
-use Rattle.words.proofs.Zeros.{ZerosIn, zeros-next, all-zeros}
+use Rattle.words.proofs.Zeros.{zeros-next, all-zeros}
 use Rattle.words.proofs.set_words.Goals as goal
 
 pub loop-i-init : goal.loop-i-init

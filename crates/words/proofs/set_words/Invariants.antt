@@ -1,9 +1,8 @@
 -- `words::set_words` meets its contract: where none of the words before i is set, they are 0. Assumes nothing.
 use mathlib.Core.Path.{◌≡◌}
 use Prim.Native.Nat.{◌-◌, ◌≤◌}
-use native.Mathlib.Omega.{arith}
 use lib.ListN.{length}
-use Rattle.words.proofs.Zeros.{ZerosIn, zeros-next, all-zeros}
+use Rattle.words.proofs.Zeros.{ZerosIn}
 use Rattle.words.proofs.set_words.Given as goal
 
 abbrev pub invariant-loop-i : goal.invariant-loop-i

@@ -1,10 +1,9 @@
 -- `words::used` meets its contract: the words from `end` on are 0. Assumes nothing.
-use Prim.Native.Nat.{◌-◌, ◌≤◌}
+use Prim.Native.Nat.{◌-◌}
 use native.Mathlib.Omega.{arith}
-use borrow.Author.Rules.{rules}
-use lib.ListN.{length, drop, length-drop}
+use lib.ListN.{drop, length-drop}
 use lib.Seq.{length-take-le}
-use Rattle.words.proofs.Zeros.{ZerosIn, more-zeros, last-zeros}
+use Rattle.words.proofs.Zeros.{more-zeros, last-zeros}
 use Rattle.words.proofs.used.Goals as goal
 
 pub loop-end-init : goal.loop-end-init

@@ -1,10 +1,7 @@
 -- `words::used` meets its contract: the words from `end` on are 0. Assumes nothing.
 use Prim.Native.Nat.{◌-◌, ◌≤◌}
-use native.Mathlib.Omega.{arith}
-use borrow.Author.Rules.{rules}
-use lib.ListN.{length, drop, length-drop}
-use lib.Seq.{length-take-le}
-use Rattle.words.proofs.Zeros.{ZerosIn, more-zeros, last-zeros}
+use lib.ListN.{length}
+use Rattle.words.proofs.Zeros.{ZerosIn}
 use Rattle.words.proofs.used.Given as goal
 
 abbrev pub invariant-loop-end : goal.invariant-loop-end

@@ -1,9 +1,7 @@
 -- `changes::edits::edits_fault` meets its contract. Assumes nothing.
-use native.Mathlib.Omega.{arith}
 use Prim.Native.Nat.{◌-◌, ◌≤◌}
-use borrow.Author.Rules.{rules}
 use Rattle.graph.specs.Store.{graph_in}
-use Rattle.changes.proofs.Present.{editable-sized, looked-within, looked-ascends, stands-there, Applying, applying-none, applying-more, applying-stop, applying-all}
+use Rattle.changes.proofs.Present.{Applying}
 use Rattle.changes.proofs.edits.edits_fault.Given as goal
 
 abbrev pub invariant-loop-i : goal.invariant-loop-i

@@ -1,6 +1,5 @@
 -- `changes::edits::stands` meets its contract. Assumes nothing.
 use native.Mathlib.Omega.{arith}
-use borrow.Author.Rules.{rules}
 use Rattle.search.proofs.Laws.{first_found, first_absent}
 use Rattle.changes.proofs.edits.stands.Goals as goal
 

@@ -1,6 +1,5 @@
 -- `changes::fill::fill` meets its contract. Assumes nothing.
 use native.Mathlib.Omega.{arith}
-use borrow.Author.Rules.{rules}
 use Rattle.changes.proofs.Filled.{low-vertices, head-kept, part_room, store-made}
 use Rattle.changes.proofs.fill.fill.Goals as goal
 

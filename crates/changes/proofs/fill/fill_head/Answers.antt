@@ -1,6 +1,5 @@
 -- `changes::fill::fill_head` meets its contract. Assumes nothing.
 use native.Mathlib.Omega.{arith}
-use borrow.Author.Rules.{rules}
 use lib.ListN.{length-drop, length-set}
 use Rattle.lists.proofs.Parts.{rest_at}
 use Rattle.changes.proofs.Filled.{head-made}

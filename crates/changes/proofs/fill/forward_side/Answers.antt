@@ -1,5 +1,4 @@
 -- `changes::fill::forward_side` meets its contract. Assumes nothing.
-use borrow.Author.Rules.{rules}
 use mathlib.Core.List.{[]}
 use Rattle.graph.specs.Graph.{forward}
 use Rattle.changes.proofs.Filled.{side-old, no_keys, filed, at_forward, side-fits, side-made}

@@ -1,5 +1,4 @@
 -- `changes::fill::merged_sides` meets its contract. Assumes nothing.
-use borrow.Author.Rules.{rules}
 use Rattle.changes.proofs.Filled.{sides-merged}
 use Rattle.changes.proofs.fill.merged_sides.Goals as goal
 

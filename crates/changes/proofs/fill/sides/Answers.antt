@@ -1,6 +1,5 @@
 -- `changes::fill::sides` meets its contract. Assumes nothing.
 use native.Mathlib.Omega.{arith}
-use borrow.Author.Rules.{rules}
 use Rattle.changes.proofs.Present.{file-sized}
 use Rattle.changes.proofs.Filled.{square-fits, few-changes}
 use Rattle.changes.proofs.fill.sides.Goals as goal

@@ -1,6 +1,5 @@
 -- `changes::fill::transposed_sides` meets its contract. Assumes nothing.
 use native.Mathlib.Omega.{arith}
-use borrow.Author.Rules.{rules}
 use Rattle.changes.proofs.Filled.{one-transposable, one-long, sides-made}
 use Rattle.changes.proofs.fill.transposed_sides.Goals as goal
 

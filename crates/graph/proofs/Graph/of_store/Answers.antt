@@ -1,6 +1,5 @@
 -- `graph::Graph::of_store` meets its contract: a word of 32 bits fits an index. Assumes nothing.
 use native.Mathlib.Omega.{arith}
-use borrow.Author.Rules.{rules}
 use Rattle.graph.proofs.Graph.of_store.Goals as goal
 
 pub overflow_cast-result : goal.overflow_cast-result

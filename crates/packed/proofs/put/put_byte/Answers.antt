@@ -1,6 +1,5 @@
 -- `packed::put::put_byte` meets its contract: past the end nothing is set. Assumes nothing.
 use mathlib.Core.Path.{sym}
-use borrow.Author.Rules.{rules}
 use lib.Seq.{set_out}
 use Rattle.packed.proofs.put.put_byte.Goals as goal
 

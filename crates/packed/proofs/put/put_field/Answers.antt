@@ -4,7 +4,6 @@
 use mathlib.Core.Path.{◌≡◌, ap, ◌∙◌}
 use Prim.Native.Nat.{ℕ, ◌-◌, ◌*◌, ◌/◌, ◌%◌, ◌^◌}
 use native.Mathlib.Omega.{arith}
-use borrow.Author.Rules.{rules}
 use Rattle.packed.specs.Field.{field_at}
 use Rattle.packed.proofs.Laws.{field_lt, field_cut}
 use Rattle.packed.proofs.Shifts.{shifted}

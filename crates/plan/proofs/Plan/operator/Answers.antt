@@ -1,6 +1,5 @@
 -- `plan::Plan::operator` meets its contract, by its tests of the kind. Assumes nothing.
 use borrow.Author.Tests.{ne_eqb}
-use borrow.Author.Rules.{rules}
 use Rattle.plan.proofs.Plan.operator.Goals as goal
 
 pub returns-then-kind-eq-SCAN : goal.returns-then-kind-eq-SCAN

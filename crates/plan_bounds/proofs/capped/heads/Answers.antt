@@ -1,7 +1,7 @@
 -- `plan_bounds::capped::heads` meets its contract: every smaller power of two is below b, and where the last one is, the heads pass 64 bits. Assumes nothing.
-use Prim.Native.Nat.{◌-◌, ◌≤◌}
+use Prim.Native.Nat.{◌-◌}
 use native.Mathlib.Omega.{arith}
-use Rattle.join_key.proofs.Doubled.{Doubled, doubled-one, doubled-some, doubled-next, doubled-last}
+use Rattle.join_key.proofs.Doubled.{doubled-one, doubled-some, doubled-next, doubled-last}
 use Rattle.plan_bounds.proofs.Capping.{heads-over}
 use Rattle.plan_bounds.proofs.capped.heads.Goals as goal
 

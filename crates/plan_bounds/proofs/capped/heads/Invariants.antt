@@ -1,8 +1,6 @@
 -- `plan_bounds::capped::heads` meets its contract: every smaller power of two is below b, and where the last one is, the heads pass 64 bits. Assumes nothing.
 use Prim.Native.Nat.{◌-◌, ◌≤◌}
-use native.Mathlib.Omega.{arith}
-use Rattle.join_key.proofs.Doubled.{Doubled, doubled-one, doubled-some, doubled-next, doubled-last}
-use Rattle.plan_bounds.proofs.Capping.{heads-over}
+use Rattle.join_key.proofs.Doubled.{Doubled}
 use Rattle.plan_bounds.proofs.capped.heads.Given as goal
 
 abbrev pub invariant-loop-h : goal.invariant-loop-h

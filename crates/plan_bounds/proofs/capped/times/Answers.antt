@@ -1,5 +1,4 @@
 -- `plan_bounds::capped::times` meets its contract, by division. Assumes nothing.
-use borrow.Author.Rules.{rules}
 use native.Mathlib.Omega.{arith}
 use Rattle.plan_bounds.proofs.Capping.{times_none, times-over, times-fits}
 use Rattle.plan_bounds.proofs.capped.times.Goals as goal

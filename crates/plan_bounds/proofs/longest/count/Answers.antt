@@ -1,11 +1,11 @@
 -- `plan_bounds::longest::count` meets its contract: the loop's invariant: what was found is what the label covers of the first i entries. Assumes nothing.
 use mathlib.Core.Path.{◌≡◌, refl, sym, ◌∙◌, ap, ap₂}
-use Prim.Native.Nat.{ℕ, ◌+◌, ◌-◌, ◌/◌, ◌≤◌}
+use Prim.Native.Nat.{ℕ, ◌+◌, ◌-◌, ◌/◌}
 use native.Mathlib.Omega.{arith}
 use lib.Dec.{eqb}
 use lib.ListN.{length, take}
 use borrow.Author.Rules.{rules}
-use Rattle.lists.specs.Lists.{bit, count_if}
+use Rattle.lists.specs.Lists.{count_if}
 use Rattle.plan_bounds.proofs.Seeing.{counted_next, counted-all}
 use lib.ListN.{get_or}
 use Rattle.plan_bounds.proofs.Seeing.{byte_le, byte-bit}

@@ -1,5 +1,4 @@
 -- `plan_bounds::longest::edges_of` meets its contract: the forward entries are those of the graph's edges. Assumes nothing.
-use borrow.Author.Rules.{rules}
 use mathlib.Core.Path.{◌≡◌, ◌∙◌}
 use native.Mathlib.Omega.{arith}
 use native.Mathlib.Nat.{add-sub_cancel_left}

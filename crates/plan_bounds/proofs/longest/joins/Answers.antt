@@ -1,6 +1,5 @@
 -- `plan_bounds::longest::joins` meets its contract. Assumes nothing.
 use mathlib.Core.Path.{sym, ◌∙◌, ap}
-use borrow.Author.Rules.{rules}
 use Rattle.lists.specs.Lists.{bit}
 use Rattle.query.specs.Inner.Mask.{in_mask}
 use Rattle.query.specs.Inner.Struct.{as_edge}

@@ -1,17 +1,10 @@
 -- `plan_bounds::longest::longest` meets its contract: the loop's invariant: the most so far is that of the vertices before v. A portion is no longer than its list. Assumes nothing.
-use mathlib.Core.Path.{◌≡◌, refl, sym, ◌∙◌, ap}
-use mathlib.Core.List.{List}
-use Prim.Native.Nat.{ℕ, ◌-◌, ◌≤◌}
-use native.Mathlib.Nat.{le_trans}
-use native.Mathlib.Omega.{arith}
-use lib.ListN.{length}
-use borrow.Author.Rules.{rules}
+use mathlib.Core.Path.{◌≡◌}
+use Prim.Native.Nat.{◌-◌, ◌≤◌}
 use Rattle.lists.specs.Lists.{range, largest}
 use Rattle.graph.specs.Graph.{Direction, portion_length}
 use Rattle.graph.specs.Store.{graph_in}
-use Rattle.adjacency.specs.Inner.Side.{side_in, Lookup}
-use Rattle.adjacency.proofs.Accepted.{lookup-within}
-use Rattle.plan_bounds.proofs.Seeing.{lookup, portion-is, portion-in-list, longest-pass, longest-take, longest-all}
+use Rattle.adjacency.specs.Inner.Side.{side_in}
 use Rattle.plan_bounds.proofs.longest.longest.Given as goal
 
 abbrev pub invariant-loop-v : goal.invariant-loop-v

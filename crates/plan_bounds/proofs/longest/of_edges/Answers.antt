@@ -1,11 +1,10 @@
 -- `plan_bounds::longest::of_edges` meets its contract: the loop's invariant: the portions seen are those of the first i query edges that run between v and the set. Assumes nothing.
 use mathlib.Core.Path.{◌≡◌, sym, ◌∙◌, ap}
 use mathlib.Core.Bool.{true, false}
-use Prim.Native.Nat.{ℕ, ◌*◌, ◌-◌, ◌≤◌}
+use Prim.Native.Nat.{◌-◌}
 use native.Mathlib.Omega.{arith}
 use borrow.Author.Rules.{rules}
 use Rattle.lists.proofs.Bits.{bit-none, bit-some}
-use Rattle.graph.specs.Graph.{Edge}
 use Rattle.graph.specs.Store.{graph_in}
 use Rattle.adjacency.proofs.Accepted.{store-counts}
 use Rattle.query.specs.Query.{between}
@@ -14,8 +13,7 @@ use Rattle.query.specs.Inner.Struct.{as_edge, edge_of}
 use Rattle.query.proofs.Structs.{edge-read}
 use Rattle.plan_order.proofs.Degrees.{edge-ends, label-byte}
 use Rattle.plan_bounds.specs.Bounds.{longest_for}
-use Rattle.plan_bounds.specs.Inner.Held.{Seen}
-use Rattle.plan_bounds.proofs.Seeing.{lengths_of, lengths_none, lengths-skip, lengths-more, seen_all}
+use Rattle.plan_bounds.proofs.Seeing.{lengths_none, lengths-skip, lengths-more, seen_all}
 use Rattle.plan_bounds.proofs.longest.of_edges.Goals as goal
 
 pub of_store-g-requires : goal.of_store-g-requires
@@ -26,11 +24,11 @@ none-seen-requires c = tt
 
 pub loop-i-init : goal.loop-i-init
 loop-i-init c = let a = c.args in (
-      omega arith,
-      rw (lengths_none (graph_in a.store.now) a.q a.v (in_mask a.set)) c.none-seen.ensures.0,
-      omega (arith, c.none-seen.ensures.1),
-      omega (arith, c.none-seen.ensures.2),
-    )
+  omega arith,
+  rw (lengths_none (graph_in a.store.now) a.q a.v (in_mask a.set)) c.none-seen.ensures.0,
+  omega (arith, c.none-seen.ensures.1),
+  omega (arith, c.none-seen.ensures.2),
+)
 
 pub edge-e-requires : goal.edge-e-requires
 edge-e-requires c = (c.loop-i-test.true, c.requires.0.held.edges)
@@ -53,9 +51,9 @@ loop-i-preserved-then-joins-eq0 c = let runs : let a = c.args in
 
 pub longest_for-requires : goal.longest_for-requires
 longest_for-requires c = (
-      record { accepted = c.requires.1; vertices = c.of_store-g.ensures.0; edges = c.of_store-g.ensures.1 },
-      label-byte c.args.q _ c.loop-i-test.true c.edge-e.result c.edge-e.ensures c.requires.0,
-    )
+  record { accepted = c.requires.1; vertices = c.of_store-g.ensures.0; edges = c.of_store-g.ensures.1 },
+  label-byte c.args.q _ c.loop-i-test.true c.edge-e.result c.edge-e.ensures c.requires.0,
+)
 
 pub with-seen-requires : goal.with-seen-requires
 with-seen-requires c = let few = c.requires.0.held.edges in

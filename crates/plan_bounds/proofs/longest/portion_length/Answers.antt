@@ -1,7 +1,6 @@
 -- `plan_bounds::longest::portion_length` meets its contract: the entries that the label covers are the portion. Assumes nothing.
 use mathlib.Core.Path.{sym, ap, ◌∙◌}
 use Prim.Native.Nat.{ℕ, ◌/◌}
-use borrow.Author.Rules.{rules}
 use Rattle.lists.specs.Lists.{count_if}
 use Rattle.lists.proofs.Count.{length-keep}
 use Rattle.graph.specs.Graph.{covers}

@@ -1,5 +1,4 @@
 -- `plan_bounds::pile::after` meets its contract, by the operator. Assumes nothing.
-use borrow.Author.Rules.{rules}
 use native.Mathlib.Omega.{arith}
 use Rattle.plan.proofs.Sets.{named-vertex, named-edge}
 use Rattle.plan_bounds.proofs.pile.after.Goals as goal

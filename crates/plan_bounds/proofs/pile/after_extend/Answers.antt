@@ -1,6 +1,5 @@
 -- `plan_bounds::pile::after_extend` meets its contract (`extended-to`). Assumes nothing.
-use borrow.Author.Rules.{rules}
-use mathlib.Core.Path.{◌≡◌, sym, ◌∙◌, ap}
+use mathlib.Core.Path.{sym, ◌∙◌, ap}
 use Prim.Native.Nat.{ℕ}
 use native.Mathlib.Omega.{arith}
 use Rattle.graph.specs.Store.{graph_in}
@@ -29,9 +28,9 @@ column-requires c = c.requires.0.held.vertices
 
 pub extended-requires : goal.extended-requires
 extended-requires c = (
-      rw c.column.ensures (narrow _ _ c.requires.0.held.vertices),
-      omega (arith, c.of_edges-p.ensures.0, least-few c.args.store.now c.requires.1 (query_in c.args.q) (in_mask c.under-b.result.set) c.args.v),
-    )
+  rw c.column.ensures (narrow _ _ c.requires.0.held.vertices),
+  omega (arith, c.of_edges-p.ensures.0, least-few c.args.store.now c.requires.1 (query_in c.args.q) (in_mask c.under-b.result.set) c.args.v),
+)
 
 pub put-requires : goal.put-requires
 put-requires c = (c.if-pile-lt1.false, omega (arith, c.if-pile-lt1.false, c.requires.3))

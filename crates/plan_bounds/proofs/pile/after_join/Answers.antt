@@ -1,6 +1,5 @@
 -- `plan_bounds::pile::after_join` meets its contract (`joined_to`). Assumes nothing.
-use borrow.Author.Rules.{rules}
-use mathlib.Core.Path.{◌≡◌, refl, sym, ◌∙◌, ap}
+use mathlib.Core.Path.{sym, ◌∙◌, ap}
 use Prim.Native.Nat.{ℕ}
 use Rattle.query.specs.Inner.Mask.{in_mask}
 use Rattle.query.specs.Inner.Struct.{query_in}

@@ -1,5 +1,4 @@
 -- `plan_bounds::pile::after_scan` meets its contract (`scanned`). Assumes nothing.
-use borrow.Author.Rules.{rules}
 use mathlib.Core.Path.{refl, ◌∙◌, ap}
 use Rattle.graph.specs.Store.{graph_in}
 use Rattle.query.specs.Inner.Struct.{query_in}

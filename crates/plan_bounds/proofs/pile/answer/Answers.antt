@@ -1,5 +1,4 @@
 -- `plan_bounds::pile::answer` meets its contract. Assumes nothing.
-use borrow.Author.Rules.{rules}
 use mathlib.Core.Path.{sym}
 use Rattle.plan_order.proofs.Degrees.{vertices-in}
 use Rattle.plan_bounds.proofs.Turning.{numbers-none, numbers-top}

@@ -1,11 +1,10 @@
 -- `plan_bounds::pile::joined` meets its contract. Assumes nothing.
-use borrow.Author.Rules.{rules}
 use mathlib.Core.Path.{refl, ◌∙◌}
 use Rattle.plan_bounds.proofs.pile.joined.Goals as goal
 
 pub returns : goal.returns
 returns c = (
-      refl,
-      c.times.ensures,
-      c.join_need.ensures ∙ rw (c.table.ensures, c.times-words.ensures),
-    )
+  refl,
+  c.times.ensures,
+  c.join_need.ensures ∙ rw (c.table.ensures, c.times-words.ensures),
+)

@@ -1,12 +1,11 @@
 -- `plan_bounds::pile::whole` meets its contract: the loop's invariant: the pile is that of the first i operators. Assumes nothing.
 use mathlib.Core.Path.{◌≡◌}
-use Prim.Native.Nat.{◌-◌, ◌≤◌}
+use Prim.Native.Nat.{◌-◌}
 use native.Mathlib.Omega.{arith}
-use borrow.Author.Rules.{rules}
 use Rattle.graph.specs.Store.{graph_in}
 use Rattle.query.specs.Inner.Struct.{query_in}
 use Rattle.plan_file.proofs.Turns.{named-at}
-use Rattle.plan_bounds.proofs.Turning.{Turned, turned_none, turned-next, turned-deep, turned-all}
+use Rattle.plan_bounds.proofs.Turning.{turned_none, turned-next, turned-deep, turned-all}
 use Rattle.plan_bounds.proofs.pile.whole.Goals as goal
 
 pub none-pile-requires : goal.none-pile-requires
@@ -20,11 +19,11 @@ operator-requires c = omega (arith, c.loop-i-test.true, c.requires.2)
 
 pub after-pile-requires : goal.after-pile-requires
 after-pile-requires c = (
-      c.requires.0,
-      c.requires.1,
-      named-at _ _ c.loop-i.i _ c.requires.3 c.loop-i-test.true c.operator.ensures,
-      omega (arith, turned-deep _ _ _ _ _ c.loop-i.invariant.1, c.loop-i-test.true, c.requires.2),
-    )
+  c.requires.0,
+  c.requires.1,
+  named-at _ _ c.loop-i.i _ c.requires.3 c.loop-i-test.true c.operator.ensures,
+  omega (arith, turned-deep _ _ _ _ _ c.loop-i.invariant.1, c.loop-i-test.true, c.requires.2),
+)
 
 pub loop-i-preserved : goal.loop-i-preserved
 loop-i-preserved c = (omega (arith, c.loop-i-test.true), turned-next _ _ _ c.loop-i.i _ _ _ c.operator.ensures c.loop-i.invariant.1 c.after-pile.ensures)

@@ -1,12 +1,8 @@
 -- `plan_bounds::pile::whole` meets its contract: the loop's invariant: the pile is that of the first i operators. Assumes nothing.
-use mathlib.Core.Path.{◌≡◌}
 use Prim.Native.Nat.{◌-◌, ◌≤◌}
-use native.Mathlib.Omega.{arith}
-use borrow.Author.Rules.{rules}
 use Rattle.graph.specs.Store.{graph_in}
 use Rattle.query.specs.Inner.Struct.{query_in}
-use Rattle.plan_file.proofs.Turns.{named-at}
-use Rattle.plan_bounds.proofs.Turning.{Turned, turned_none, turned-next, turned-deep, turned-all}
+use Rattle.plan_bounds.proofs.Turning.{Turned}
 use Rattle.plan_bounds.proofs.pile.whole.Given as goal
 
 abbrev pub invariant-loop-i : goal.invariant-loop-i

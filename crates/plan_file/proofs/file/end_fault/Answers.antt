@@ -1,6 +1,5 @@
 -- `plan_file::file::end_fault` meets its contract, by its tests. Assumes nothing.
 use mathlib.Core.Path.{◌∙◌, sym}
-use borrow.Author.Rules.{rules}
 use borrow.Author.Tests.{lt-ltb, le-ltb}
 use Rattle.lists.specs.Refusal.{first}
 use Rattle.plan_file.proofs.file.end_fault.Goals as goal

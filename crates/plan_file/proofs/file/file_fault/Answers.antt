@@ -1,7 +1,6 @@
 -- `plan_file::file::file_fault` meets its contract: a count of 5 bits is below 32. Assumes nothing.
 use mathlib.Core.Path.{sym, ◌∙◌}
 use native.Mathlib.Omega.{arith}
-use borrow.Author.Rules.{rules}
 use borrow.Author.Tests.{eq-eqb, ne_eqb}
 use Rattle.packed.proofs.Laws.{field_lt}
 use Rattle.plan_file.specs.Inner.Parts.{plan_file_fault}
@@ -16,9 +15,9 @@ returns-then-file-lt1 c = rw (stops 11 _ _ (bits-lack c.args.file.now 5 c.if-fil
 pub returns-then-count-eq0 : goal.returns-then-count-eq0
 unfolding plan_file_fault
 returns-then-count-eq0 c = rw (
-      passes 12 _ _ (bits-there _ 5 c.if-file-lt1.false),
-      stops 13 _ _ (eq-eqb _ 0 (sym c.operator_count-count.ensures ∙ c.if-count-eq0.true)),
-    )
+  passes 12 _ _ (bits-there _ 5 c.if-file-lt1.false),
+  stops 13 _ _ (eq-eqb _ 0 (sym c.operator_count-count.ensures ∙ c.if-count-eq0.true)),
+)
 
 pub operators_fault-requires : goal.operators_fault-requires
 operators_fault-requires c = (
@@ -29,7 +28,7 @@ operators_fault-requires c = (
 pub returns : goal.returns
 unfolding plan_file_fault
 returns c = rw (
-      passes 12 _ _ (bits-there _ 5 c.if-file-lt1.false),
-      passes 14 _ _ (ne_eqb _ 0 (rw c.operator_count-count.ensures at c.if-count-eq0.false)),
-      ← c.operator_count-count.ensures,
-    ) c.operators_fault.ensures
+  passes 12 _ _ (bits-there _ 5 c.if-file-lt1.false),
+  passes 14 _ _ (ne_eqb _ 0 (rw c.operator_count-count.ensures at c.if-count-eq0.false)),
+  ← c.operator_count-count.ensures,
+) c.operators_fault.ensures

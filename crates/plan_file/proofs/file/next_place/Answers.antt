@@ -1,6 +1,5 @@
 -- `plan_file::file::next_place` meets its contract: an operand has at most 5 bits. Assumes nothing.
 use native.Mathlib.Omega.{arith}
-use borrow.Author.Rules.{rules}
 use Rattle.plan_file.proofs.Places.{operand-width-le}
 use Rattle.plan_file.proofs.file.next_place.Goals as goal
 

@@ -1,7 +1,6 @@
 -- `plan_file::file::operand` meets its contract: an operand has at most 5 bits. Assumes nothing.
 use native.Mathlib.Nat.{le_trans}
 use lib.Dec.{lit≤}
-use borrow.Author.Rules.{rules}
 use Rattle.plan_file.proofs.Places.{operand-width-le}
 use Rattle.plan_file.proofs.file.operand.Goals as goal
 

@@ -1,9 +1,9 @@
 -- `plan_file::file::operators_fault` meets its contract: the loop has passed i operators without fault. Assumes nothing.
 use mathlib.Core.Path.{◌≡◌, sym, ◌∙◌}
-use Prim.Native.Nat.{◌-◌, ◌≤◌}
+use Prim.Native.Nat.{◌-◌}
 use native.Mathlib.Omega.{arith}
 use Rattle.plan_file.specs.Inner.Parts.{of_size}
-use Rattle.plan_file.proofs.Places.{Passed, operator-there, passed_none, passed-more, passed-stop, passed-end}
+use Rattle.plan_file.proofs.Places.{operator-there, passed_none, passed-more, passed-stop, passed-end}
 use Rattle.plan_file.proofs.file.operators_fault.Goals as goal
 
 pub loop-i-init : goal.loop-i-init
@@ -20,9 +20,9 @@ returns-then-fault-ne0 c = c.operator_fault-fault.ensures
 
 pub next_place-at-requires : goal.next_place-at-requires
 next_place-at-requires c = (
-      omega (arith, c.loop-i.invariant.1.near),
-      omega (arith, operator-there (of_size c.args.n c.args.m) c.args.file.now c.loop-i.at (sym c.operator_fault-fault.ensures ∙ c.if-fault-ne0.false)),
-    )
+  omega (arith, c.loop-i.invariant.1.near),
+  omega (arith, operator-there (of_size c.args.n c.args.m) c.args.file.now c.loop-i.at (sym c.operator_fault-fault.ensures ∙ c.if-fault-ne0.false)),
+)
 
 pub loop-i-preserved : goal.loop-i-preserved
 loop-i-preserved c = (omega arith, passed-more _ _ _ _ _ c.loop-i.invariant.1 (sym c.operator_fault-fault.ensures ∙ c.if-fault-ne0.false) c.next_place-at.ensures.is)

@@ -1,9 +1,7 @@
 -- `plan_file::file::operators_fault` meets its contract: the loop has passed i operators without fault. Assumes nothing.
-use mathlib.Core.Path.{◌≡◌, sym, ◌∙◌}
 use Prim.Native.Nat.{◌-◌, ◌≤◌}
-use native.Mathlib.Omega.{arith}
 use Rattle.plan_file.specs.Inner.Parts.{of_size}
-use Rattle.plan_file.proofs.Places.{Passed, operator-there, passed_none, passed-more, passed-stop, passed-end}
+use Rattle.plan_file.proofs.Places.{Passed}
 use Rattle.plan_file.proofs.file.operators_fault.Given as goal
 
 abbrev pub invariant-loop-i : goal.invariant-loop-i

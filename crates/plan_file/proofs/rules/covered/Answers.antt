@@ -13,7 +13,6 @@ use Rattle.plan_file.specs.Inner.Pile.{masks_in, sets_in}
 use Rattle.plan.proofs.Sets.{or_set, plus-set, edge-source, edge-target, named-vertex, named-edge}
 use Rattle.plan_file.proofs.Piles.{depth_is}
 use Rattle.plan.proofs.Piles.{extend-asks, extend-covers, join-asks, join-covers}
-use borrow.Author.Rules.{rules}
 use Rattle.plan_file.proofs.rules.covered.Goals as goal
 
 pub edge-requires : goal.edge-requires
@@ -49,11 +48,11 @@ put-requires-in-Join c = let two-there : 1 < length (masks_in c.args.pile) = joi
 pub returns-in-Scan : goal.returns-in-Scan
 unfolding covered
 returns-in-Scan c = (
-      omega (arith, c.put.ensures.0),
-      rw c.o-1.given.1
-          (ap (map in_mask) c.put.ensures.1
-          ∙ ap (λ (S : VertexSet). S ∷ sets_in c.args.pile) (fun_ext (rw c.edge.ensures at c.ends.ensures))),
-    )
+  omega (arith, c.put.ensures.0),
+  rw c.o-1.given.1
+      (ap (map in_mask) c.put.ensures.1
+      ∙ ap (λ (S : VertexSet). S ∷ sets_in c.args.pile) (fun_ext (rw c.edge.ensures at c.ends.ensures))),
+)
 
 pub returns-in-Extend : goal.returns-in-Extend
 returns-in-Extend c = let one-there : 0 < length (masks_in c.args.pile) = extend-asks _ _ (masks_in c.args.pile) (rw c.o-in-Extend-1.given.1 at c.requires.3) in

@@ -1,7 +1,6 @@
 -- `plan_file::rules::inside` meets its contract: the product of two digits is 1 where both are. Assumes nothing.
 use Rattle.plan_file.proofs.Bits.{both_bits, bits_fit}
 use Rattle.query.specs.Inner.Mask.{in_mask}
-use borrow.Author.Rules.{rules}
 use Rattle.plan_file.proofs.rules.inside.Goals as goal
 
 pub overflow_mul-result : goal.overflow_mul-result

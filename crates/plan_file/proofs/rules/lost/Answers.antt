@@ -2,7 +2,6 @@
 use mathlib.Core.Path.{sym, ◌∙◌}
 use Rattle.query.specs.Inner.Struct.{as_edge}
 use Rattle.plan.proofs.Sets.{kept-build, kept-probe, kept-neither}
-use borrow.Author.Rules.{rules}
 use Rattle.plan_file.proofs.rules.lost.Goals as goal
 
 pub returns-then-inside : goal.returns-then-inside

@@ -1,13 +1,11 @@
 -- `plan_file::rules::lost_edge_fault` meets its contract: the loop has lost none of the first i edges. Assumes nothing.
-use mathlib.Core.Path.{◌≡◌, sym, ◌∙◌}
+use mathlib.Core.Path.{sym, ◌∙◌}
 use mathlib.Core.Bool.{true}
-use Prim.Native.Nat.{ℕ, ◌-◌, ◌≤◌, ◌<◌}
+use Prim.Native.Nat.{◌-◌}
 use native.Mathlib.Nat.{not-suc-le-zero, lt_of_lt_of_le}
 use native.Mathlib.Omega.{arith}
 use borrow.Author.Count.{below_more}
 use Rattle.lists.proofs.Tests.{not-true, not-false}
-use Rattle.query.specs.Query.{edge_at}
-use Rattle.query.specs.Inner.Struct.{query_in}
 use Rattle.query.specs.Inner.Mask.{in_mask}
 use Rattle.plan.specs.Inner.Pile.{kept}
 use Rattle.plan.proofs.Sets.{edge-source, edge-target, edges-pass, edge-fails}
@@ -31,9 +29,9 @@ overflow_add-i c = omega (arith, c.requires.edges)
 
 pub loop-i-preserved : goal.loop-i-preserved
 loop-i-preserved c = (
-      omega (arith, c.loop-i-test.true),
-      below_more _ c.loop-i.i c.loop-i.invariant.1 (not-false _ (sym (rw c.edge.ensures at c.lost.ensures) ∙ c.if-lost.false)),
-    )
+  omega (arith, c.loop-i-test.true),
+  below_more _ c.loop-i.i c.loop-i.invariant.1 (not-false _ (sym (rw c.edge.ensures at c.lost.ensures) ∙ c.if-lost.false)),
+)
 
 pub returns : goal.returns
 returns c = let a = c.args in

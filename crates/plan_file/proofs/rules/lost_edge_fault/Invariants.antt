@@ -1,16 +1,11 @@
 -- `plan_file::rules::lost_edge_fault` meets its contract: the loop has lost none of the first i edges. Assumes nothing.
-use mathlib.Core.Path.{◌≡◌, sym, ◌∙◌}
+use mathlib.Core.Path.{◌≡◌}
 use mathlib.Core.Bool.{true}
 use Prim.Native.Nat.{ℕ, ◌-◌, ◌≤◌, ◌<◌}
-use native.Mathlib.Nat.{not-suc-le-zero, lt_of_lt_of_le}
-use native.Mathlib.Omega.{arith}
-use borrow.Author.Count.{below_more}
-use Rattle.lists.proofs.Tests.{not-true, not-false}
 use Rattle.query.specs.Query.{edge_at}
 use Rattle.query.specs.Inner.Struct.{query_in}
 use Rattle.query.specs.Inner.Mask.{in_mask}
 use Rattle.plan.specs.Inner.Pile.{kept}
-use Rattle.plan.proofs.Sets.{edge-source, edge-target, edges-pass, edge-fails}
 use Rattle.plan_file.proofs.rules.lost_edge_fault.Given as goal
 
 abbrev pub invariant-loop-i : goal.invariant-loop-i

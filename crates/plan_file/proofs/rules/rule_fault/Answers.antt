@@ -1,7 +1,6 @@
 -- `plan_file::rules::rule_fault` meets its contract, by the operator and the depth of the pile. Assumes nothing.
 use mathlib.Core.Path.{sym, ◌∙◌}
 use native.Mathlib.Omega.{arith}
-use borrow.Author.Rules.{rules}
 use Rattle.plan.specs.Check.{rule_fault}
 use Rattle.plan_file.specs.Inner.Pile.{masks_in}
 use Rattle.plan.proofs.Sets.{named-vertex}

@@ -2,15 +2,11 @@
 -- Assumes nothing.
 use mathlib.Core.Path.{◌≡◌, sym, ◌∙◌}
 use mathlib.Core.Bool.{true}
-use mathlib.Core.List.{[]}
-use Prim.Native.Nat.{◌-◌, ◌≤◌}
+use Prim.Native.Nat.{◌-◌}
 use native.Mathlib.Omega.{arith}
-use lib.ListN.{drop}
 use Rattle.query.specs.Inner.Struct.{query_in}
-use Rattle.plan.specs.Check.{rules_fault}
-use Rattle.plan.specs.Inner.Struct.{operator_is, operators_in}
+use Rattle.plan.specs.Inner.Struct.{operator_is}
 use Rattle.plan.specs.Inner.Pile.{named as has}
-use Rattle.plan_file.specs.Inner.Pile.{sets_in}
 use Rattle.plan_file.proofs.Turns.{named-at, rules-stop, rules-pass, rules-done}
 use Rattle.plan_file.proofs.rules.rules_fault.Goals as goal
 
@@ -45,12 +41,12 @@ loop-i-smaller c = omega (arith, c.loop-i-test.true)
 
 pub loop-i-preserved : goal.loop-i-preserved
 loop-i-preserved c = (
-      omega (arith, c.loop-i-test.true),
-      omega (arith, c.loop-i.invariant.1, c.covered-pile.ensures.0),
-      c.loop-i.invariant.2
-          ∙ rules-pass _ _ _ c.loop-i.i _ c.loop-i-test.true c.operator-o.ensures (sym c.rule_fault-fault.ensures ∙ c.if-fault-ne0.false)
-          ∙ rw c.covered-pile.ensures.1,
-    )
+  omega (arith, c.loop-i-test.true),
+  omega (arith, c.loop-i.invariant.1, c.covered-pile.ensures.0),
+  c.loop-i.invariant.2
+      ∙ rules-pass _ _ _ c.loop-i.i _ c.loop-i-test.true c.operator-o.ensures (sym c.rule_fault-fault.ensures ∙ c.if-fault-ne0.false)
+      ∙ rw c.covered-pile.ensures.1,
+)
 
 pub end_fault-requires : goal.end_fault-requires
 end_fault-requires c = (c.requires.0, omega (arith, c.loop-i.invariant.0, c.loop-i.invariant.1, c.requires.1))

@@ -1,17 +1,13 @@
 -- `plan_file::rules::rules_fault` meets its contract: what is left of the rules is over the pile that the first i operators leave.
 -- Assumes nothing.
-use mathlib.Core.Path.{◌≡◌, sym, ◌∙◌}
-use mathlib.Core.Bool.{true}
+use mathlib.Core.Path.{◌≡◌}
 use mathlib.Core.List.{[]}
 use Prim.Native.Nat.{◌-◌, ◌≤◌}
-use native.Mathlib.Omega.{arith}
 use lib.ListN.{drop}
 use Rattle.query.specs.Inner.Struct.{query_in}
 use Rattle.plan.specs.Check.{rules_fault}
-use Rattle.plan.specs.Inner.Struct.{operator_is, operators_in}
-use Rattle.plan.specs.Inner.Pile.{named as has}
+use Rattle.plan.specs.Inner.Struct.{operators_in}
 use Rattle.plan_file.specs.Inner.Pile.{sets_in}
-use Rattle.plan_file.proofs.Turns.{named-at, rules-stop, rules-pass, rules-done}
 use Rattle.plan_file.proofs.rules.rules_fault.Given as goal
 
 abbrev pub invariant-loop-i : goal.invariant-loop-i

@@ -4,7 +4,7 @@ use native.Mathlib.Omega.{arith}
 use lib.ListN.{length}
 use borrow.Rule.Slice.PartMut.{same_len_mid}
 use Rattle.plan.proofs.Sets.{edge-source, edge-target}
-use Rattle.plan_spectrum.proofs.Scanning.{Scanned, scan-start, scan-fits, scan-done, scan-asks, scanned, scan-small}
+use Rattle.plan_spectrum.proofs.Scanning.{scan-start, scan-fits, scan-done, scan-asks, scanned, scan-small}
 use Rattle.plan_spectrum.proofs.listing.list_orderings.Goals as goal
 
 pub overflow_sub-width : goal.overflow_sub-width
@@ -21,9 +21,9 @@ edge-requires c = (c.loop-i-test.true, c.requires.0.held.edges)
 
 pub ends-requires : goal.ends-requires
 ends-requires c = (
-      rw c.edge.ensures (edge-source c.args.q c.requires.0.held c.loop-i.i c.loop-i-test.true),
-      rw c.edge.ensures (edge-target c.args.q c.requires.0.held c.loop-i.i c.loop-i-test.true),
-    )
+  rw c.edge.ensures (edge-source c.args.q c.requires.0.held c.loop-i.i c.loop-i-test.true),
+  rw c.edge.ensures (edge-target c.args.q c.requires.0.held c.loop-i.i c.loop-i-test.true),
+)
 
 pub overflow_sub-q : goal.overflow_sub-q
 overflow_sub-q c = omega (arith, c.requires.0.at_least_lem)

@@ -1,10 +1,6 @@
 -- `plan_spectrum::listing::list_orderings` meets its contract. Assumes nothing.
-use Prim.Native.Nat.{◌-◌, ◌*◌}
-use native.Mathlib.Omega.{arith}
-use lib.ListN.{length}
-use borrow.Rule.Slice.PartMut.{same_len_mid}
-use Rattle.plan.proofs.Sets.{edge-source, edge-target}
-use Rattle.plan_spectrum.proofs.Scanning.{Scanned, scan-start, scan-fits, scan-done, scan-asks, scanned, scan-small}
+use Prim.Native.Nat.{◌-◌}
+use Rattle.plan_spectrum.proofs.Scanning.{Scanned}
 use Rattle.plan_spectrum.proofs.listing.list_orderings.Given as goal
 
 abbrev pub invariant-loop-i : goal.invariant-loop-i

@@ -1,7 +1,6 @@
 -- `plan_spectrum::writing::put_cost` meets its contract. Assumes nothing.
 use Rattle.plan_spectrum.proofs.Laying.{put_two}
 use Prim.Native.Nat.{◌/◌, ◌%◌}
-use borrow.Author.Rules.{rules}
 use Rattle.plan_spectrum.proofs.writing.put_cost.Goals as goal
 
 pub returns : goal.returns

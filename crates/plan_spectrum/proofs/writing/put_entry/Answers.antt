@@ -2,7 +2,6 @@
 use native.Mathlib.Omega.{arith}
 use Rattle.plan_spectrum.specs.Spectrum.{cost_words}
 use Rattle.plan_spectrum.proofs.Laying.{entry-put}
-use borrow.Author.Rules.{rules}
 use Rattle.plan_spectrum.proofs.writing.put_entry.Goals as goal
 
 pub returns : goal.returns

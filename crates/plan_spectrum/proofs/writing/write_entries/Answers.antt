@@ -3,7 +3,7 @@ use Prim.Native.Nat.{◌+◌, ◌-◌, ◌*◌}
 use native.Mathlib.Omega.{arith}
 use lib.ListN.{length}
 use borrow.Rule.Slice.PartMut.{same_len_mid}
-use Rattle.plan_spectrum.proofs.Entering.{Entered, list-fits, room_fits, enter-start, enter-asks, entered, enter-done}
+use Rattle.plan_spectrum.proofs.Entering.{list-fits, room_fits, enter-start, enter-asks, entered, enter-done}
 use Rattle.plan_spectrum.proofs.writing.write_entries.Goals as goal
 
 pub overflow_add-each : goal.overflow_add-each

@@ -1,9 +1,6 @@
 -- `plan_spectrum::writing::write_entries` meets its contract. Assumes nothing.
-use Prim.Native.Nat.{◌+◌, ◌-◌, ◌*◌}
-use native.Mathlib.Omega.{arith}
-use lib.ListN.{length}
-use borrow.Rule.Slice.PartMut.{same_len_mid}
-use Rattle.plan_spectrum.proofs.Entering.{Entered, list-fits, room_fits, enter-start, enter-asks, entered, enter-done}
+use Prim.Native.Nat.{◌-◌}
+use Rattle.plan_spectrum.proofs.Entering.{Entered}
 use Rattle.plan_spectrum.proofs.writing.write_entries.Given as goal
 
 abbrev pub invariant-loop-k : goal.invariant-loop-k

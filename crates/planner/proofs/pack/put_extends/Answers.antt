@@ -2,16 +2,16 @@
 use mathlib.Core.Path.{◌≡◌, sym, ◌∙◌, ap}
 use mathlib.Core.List.{List, ◌++◌}
 use mathlib.Core.Path.{refl}
-use Prim.Native.Nat.{ℕ, ◌+◌, ◌-◌, ◌*◌, ◌≤◌, ◌<◌}
+use Prim.Native.Nat.{ℕ, ◌+◌, ◌-◌, ◌<◌}
 use native.Mathlib.Omega.{arith}
-use lib.ListN.{length, length-append}
+use lib.ListN.{length-append}
 use borrow.Author.Rules.{rules}
 use Rattle.packed.specs.Inner.Put.{written}
 use Rattle.query.specs.Inner.Mask.{in_mask}
 use Rattle.query.specs.Inner.Struct.{query_in}
 use Rattle.plan_order.specs.Order.{next_vertex, extends_from}
 use Rattle.planner.proofs.Ordering.{length-extends}
-use Rattle.planner.proofs.Turns.{Turned, turned_none, turned-next, turned_more, bits_to, length-bits_to, bits_to-none, bits_to-more, bits_to-all}
+use Rattle.planner.proofs.Turns.{turned_none, turned-next, turned_more, bits_to, length-bits_to, bits_to-none, bits_to-more, bits_to-all}
 use Rattle.planner.proofs.pack.put_extends.Goals as goal
 
 pub overflow_sub-extends : goal.overflow_sub-extends
@@ -19,22 +19,22 @@ overflow_sub-extends c = c.requires.0.vertices
 
 pub loop-i-init : goal.loop-i-init
 loop-i-init c = let a = c.args in (
-      refl,
-      search rules,
-      refl,
-      turned_none (query_in a.q) (a.q.vertices - 2) a.set,
-      λ old bits e l. e ∙ ap (written old) (sym (bits_to-none bits (extends_from (query_in a.q) (in_mask a.set) (a.q.vertices - 2)))),
-    )
+  refl,
+  search rules,
+  refl,
+  turned_none (query_in a.q) (a.q.vertices - 2) a.set,
+  λ old bits e l. e ∙ ap (written old) (sym (bits_to-none bits (extends_from (query_in a.q) (in_mask a.set) (a.q.vertices - 2)))),
+)
 
 pub next_vertex-v-requires : goal.next_vertex-v-requires
 next_vertex-v-requires c = c.requires.0
 
 pub put_extend-requires : goal.put_extend-requires
 put_extend-requires c = let l = c.loop-i in (
-      omega (arith, c.requires.0.held.vertices),
-      omega (arith, l.invariant.2),
-      omega (arith, c.next_vertex-v.ensures.1, c.requires.0.held.vertices),
-    )
+  omega (arith, c.requires.0.held.vertices),
+  omega (arith, l.invariant.2),
+  omega (arith, c.next_vertex-v.ensures.1, c.requires.0.held.vertices),
+)
 
 pub only-covered-requires : goal.only-covered-requires
 only-covered-requires c = omega (arith, c.next_vertex-v.ensures.1, c.requires.0.held.vertices)

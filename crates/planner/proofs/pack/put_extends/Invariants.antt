@@ -1,17 +1,13 @@
 -- `planner::pack::put_extends` meets its contract. The loop's invariant: the bits of the first i extends are written. Assumes nothing.
-use mathlib.Core.Path.{◌≡◌, sym, ◌∙◌, ap}
+use mathlib.Core.Path.{◌≡◌}
 use mathlib.Core.List.{List, ◌++◌}
-use mathlib.Core.Path.{refl}
-use Prim.Native.Nat.{ℕ, ◌+◌, ◌-◌, ◌*◌, ◌≤◌, ◌<◌}
-use native.Mathlib.Omega.{arith}
-use lib.ListN.{length, length-append}
-use borrow.Author.Rules.{rules}
+use Prim.Native.Nat.{ℕ, ◌+◌, ◌-◌, ◌*◌, ◌≤◌}
+use lib.ListN.{length}
 use Rattle.packed.specs.Inner.Put.{written}
 use Rattle.query.specs.Inner.Mask.{in_mask}
 use Rattle.query.specs.Inner.Struct.{query_in}
-use Rattle.plan_order.specs.Order.{next_vertex, extends_from}
-use Rattle.planner.proofs.Ordering.{length-extends}
-use Rattle.planner.proofs.Turns.{Turned, turned_none, turned-next, turned_more, bits_to, length-bits_to, bits_to-none, bits_to-more, bits_to-all}
+use Rattle.plan_order.specs.Order.{extends_from}
+use Rattle.planner.proofs.Turns.{Turned, bits_to}
 use Rattle.planner.proofs.pack.put_extends.Given as goal
 
 abbrev pub invariant-loop-i : goal.invariant-loop-i

@@ -6,7 +6,6 @@ use Prim.Native.Nat.{◌*◌}
 use native.Mathlib.Omega.{arith}
 use lib.Pow.{pow_pos}
 use lib.ListN.{length, drop}
-use borrow.Author.Rules.{rules}
 use Rattle.packed.specs.Field.{bytes_for}
 use Rattle.packed.specs.Encode.{bytes_of}
 use Rattle.packed.specs.Inner.Put.{written}
@@ -26,7 +25,7 @@ pub ends-requires : goal.ends-requires
 ends-requires c = edge-ends c.args.q c.args.edge c.requires.1 c.edge.result c.edge.ensures c.requires.0.held
 
 pub put_field-requires : goal.put_field-requires
-put_field-requires c = let long : length c.put_extends.new.plan ≡ length c.args.plan.now = 
+put_field-requires c = let long : length c.put_extends.new.plan ≡ length c.args.plan.now =
     c.put_extends.auto.plan ∙ c.put_scan.auto.plan in
     (omega arith, omega (arith, long, c.plan_bits-bits.ensures, c.requires.2), pow_pos _)
 
@@ -35,10 +34,10 @@ returns c = let old = c.args.plan.now in
     let q = query_in c.args.q in
     let n = c.args.q.vertices - 2 in
     let vs = extends_from q (ends (edge_at q c.args.edge)) n in
-    let covered : in_mask c.ends.result ≡ ends (edge_at q c.args.edge) = 
+    let covered : in_mask c.ends.result ≡ ends (edge_at q c.args.edge) =
     ends-mask c.args.q c.args.edge c.edge.result c.ends.result c.edge.ensures c.ends.ensures in
     let count : c.args.q.vertices - 1 ≡ 1 + length vs = rw length-extends (omega (arith, c.requires.0.vertices)) in
-    let bits : c.put_extends.new.plan ≡ written old (plan_bits c.args.edge vs) = 
+    let bits : c.put_extends.new.plan ≡ written old (plan_bits c.args.edge vs) =
     c.put_extends.ensures old (scan_bits (c.args.q.vertices - 1) c.args.edge) c.put_scan.ensures (length-scan_bits _ _)
     ∙ ap₂ (λ (k : ℕ) (S : VertexSet). written old (scan_bits k c.args.edge ++ flat_map extend_bits (extends_from q S n))) count covered
     ∙ ap (written old) (plan-bits c.args.edge vs) in

@@ -1,13 +1,12 @@
 -- `query::Query::filter` meets its contract: each array has the field of vertex w at w. Assumes nothing.
 use lib.ListN.{get_or}
-use borrow.Author.Rules.{rules}
 use Rattle.query.specs.Inner.Struct.{filter_of}
 use Rattle.query.proofs.Query.filter.Goals as goal
 
 pub returns : goal.returns
 unfolding filter_of
 returns c = let a = c.args in
-    let q = a.t1 in
+    let q = a.self in
     λ k. record {
       label = get_or q.labels a.w 0;
       first = get_or q.firsts a.w 0;

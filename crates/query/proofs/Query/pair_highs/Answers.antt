@@ -1,10 +1,9 @@
 -- `query::Query::pair_highs` meets its contract: after i pairs, the high vertices that these have with v. Assumes nothing.
 use mathlib.Core.Path.{◌≡◌, ◌∙◌, ap}
-use Prim.Native.Nat.{ℕ, ◌≤◌, ◌-◌}
+use Prim.Native.Nat.{ℕ, ◌-◌}
 use native.Mathlib.Omega.{arith}
 use lib.Dec.{eqb}
 use borrow.Author.Rules.{rules}
-use Rattle.query.specs.Inner.Mask.{MaskOf}
 use Rattle.query.specs.Inner.Struct.{pair_of}
 use Rattle.query.proofs.Pairs.{by_pairs, pairs-none, pairs-more, high_of, all-highs, and-swap}
 use Rattle.query.proofs.Query.pair_highs.Goals as goal
@@ -20,10 +19,10 @@ pub loop-i-preserved : goal.loop-i-preserved
 loop-i-preserved c = let a = c.args in
     let i = c.loop-i.i in (
       omega arith,
-      pairs-more (high_of a.v) a.t1 i _ _ c.loop-i.invariant.1 (λ w. c.pair_end-found.ensures w ∙ and-swap (eqb (pair_of a.t1 i).high w) (eqb (pair_of a.t1 i).low a.v)),
+      pairs-more (high_of a.v) a.self i _ _ c.loop-i.invariant.1 (λ w. c.pair_end-found.ensures w ∙ and-swap (eqb (pair_of a.self i).high w) (eqb (pair_of a.self i).low a.v)),
     )
 
 pub returns : goal.returns
 returns c w = let a = c.args in
-    let all : c.loop-i.i ≡ a.t1.pairs = omega arith in
-    c.loop-i.invariant.1 w ∙ ap (λ (i : ℕ). by_pairs (high_of a.v) a.t1 i w) all ∙ all-highs a.t1 a.v w
+    let all : c.loop-i.i ≡ a.self.pairs = omega arith in
+    c.loop-i.invariant.1 w ∙ ap (λ (i : ℕ). by_pairs (high_of a.v) a.self i w) all ∙ all-highs a.self a.v w

@@ -1,12 +1,7 @@
 -- `query::Query::pair_highs` meets its contract: after i pairs, the high vertices that these have with v. Assumes nothing.
-use mathlib.Core.Path.{◌≡◌, ◌∙◌, ap}
-use Prim.Native.Nat.{ℕ, ◌≤◌, ◌-◌}
-use native.Mathlib.Omega.{arith}
-use lib.Dec.{eqb}
-use borrow.Author.Rules.{rules}
+use Prim.Native.Nat.{◌≤◌, ◌-◌}
 use Rattle.query.specs.Inner.Mask.{MaskOf}
-use Rattle.query.specs.Inner.Struct.{pair_of}
-use Rattle.query.proofs.Pairs.{by_pairs, pairs-none, pairs-more, high_of, all-highs, and-swap}
+use Rattle.query.proofs.Pairs.{by_pairs, high_of}
 use Rattle.query.proofs.Query.pair_highs.Given as goal
 
 abbrev pub invariant-loop-i : goal.invariant-loop-i

@@ -1,10 +1,7 @@
 -- `query::Query::pair_lows` meets its contract: after i pairs, the low vertices that these have with v. Assumes nothing.
-use mathlib.Core.Path.{◌≡◌, ◌∙◌, ap}
-use Prim.Native.Nat.{ℕ, ◌≤◌, ◌-◌}
-use native.Mathlib.Omega.{arith}
-use borrow.Author.Rules.{rules}
+use Prim.Native.Nat.{◌≤◌, ◌-◌}
 use Rattle.query.specs.Inner.Mask.{MaskOf}
-use Rattle.query.proofs.Pairs.{by_pairs, pairs-none, pairs-more, low_of, all-lows}
+use Rattle.query.proofs.Pairs.{by_pairs, low_of}
 use Rattle.query.proofs.Query.pair_lows.Given as goal
 
 abbrev pub invariant-loop-i : goal.invariant-loop-i

@@ -1,14 +1,7 @@
 -- `query::Query::reach` meets its contract: after w vertices, the set has grown by those below w. Assumes nothing.
-use mathlib.Core.Path.{◌≡◌, refl, ◌∙◌, ap}
-use mathlib.Core.Bool.{not}
-use Prim.Native.Nat.{ℕ, ◌≤◌, ◌-◌}
-use native.Mathlib.Omega.{arith}
-use borrow.Author.Rules.{rules}
-use borrow.Author.Tests.{eq-eqb, ne_eqb}
+use Prim.Native.Nat.{◌≤◌, ◌-◌}
 use Rattle.query.specs.Inner.Struct.{query_in}
 use Rattle.query.specs.Inner.Mask.{in_mask, MaskOf, with_neighbours}
-use Rattle.query.proofs.Steps.{grown-none, grown-more, grown-same}
-use Rattle.query.proofs.Touch.{touches-mask}
 use Rattle.query.proofs.Query.reach.Given as goal
 
 abbrev pub invariant-loop-w : goal.invariant-loop-w

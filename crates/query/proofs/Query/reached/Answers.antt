@@ -1,11 +1,9 @@
 -- `query::Query::reached` meets its contract: after k steps, the vertices that k edges lead to. Assumes nothing.
 use mathlib.Core.Path.{◌≡◌, ◌∙◌, ap}
-use Prim.Native.Nat.{ℕ, ◌≤◌, ◌-◌}
+use Prim.Native.Nat.{ℕ, ◌-◌}
 use native.Mathlib.Omega.{arith}
-use borrow.Author.Rules.{rules}
 use Rattle.query.specs.Query.{among, reached}
 use Rattle.query.specs.Inner.Struct.{query_in}
-use Rattle.query.specs.Inner.Mask.{MaskOf}
 use Rattle.query.proofs.Steps.{reached-none, reached-more}
 use Rattle.query.proofs.Query.reached.Goals as goal
 

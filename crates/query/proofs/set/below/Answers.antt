@@ -1,7 +1,6 @@
 -- `query::set::below` meets its contract. Assumes nothing.
 use lib.Pow.{pow_pos}
 use Rattle.query.proofs.Masks.{shifted_one, in-below}
-use borrow.Author.Rules.{rules}
 use Rattle.query.proofs.set.below.Goals as goal
 
 pub overflow_sub-result : goal.overflow_sub-result

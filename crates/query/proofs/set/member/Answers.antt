@@ -1,6 +1,5 @@
 -- `query::set::member` meets its contract. Assumes nothing.
 use Rattle.query.proofs.Masks.{in-digit}
-use borrow.Author.Rules.{rules}
 use Rattle.query.proofs.set.member.Goals as goal
 
 pub returns : goal.returns

@@ -1,6 +1,5 @@
 -- `query::set::only` meets its contract. Assumes nothing.
 use Rattle.query.proofs.Masks.{shifted_one, in-only}
-use borrow.Author.Rules.{rules}
 use Rattle.query.proofs.set.only.Goals as goal
 
 pub returns : goal.returns

@@ -1,12 +1,7 @@
 -- `query_file::faults::days_fault` meets its contract: no vertex before w has a fault. Assumes nothing.
-use mathlib.Core.Path.{◌≡◌, refl, sym}
+use mathlib.Core.Path.{◌≡◌}
 use Prim.Native.Nat.{◌-◌, ◌≤◌}
-use native.Mathlib.Omega.{arith}
-use borrow.Author.Rules.{rules}
-use Rattle.lists.specs.Lists.{range}
-use Rattle.lists.specs.Refusal.{first}
 use Rattle.query_file.specs.Inner.Parts.{query_days_fault}
-use Rattle.query_file.proofs.FileLaws.{days-next, days-stop}
 use Rattle.query_file.proofs.faults.days_fault.Given as goal
 
 abbrev pub invariant-loop-w : goal.invariant-loop-w

@@ -4,7 +4,6 @@ use borrow.Author.Tests.{lt-ltb, le-ltb, eq-eqb, ne_eqb}
 use Rattle.lists.specs.Refusal.{first}
 use Rattle.query.specs.File.{key}
 use Rattle.query_file.specs.Inner.Parts.{edge_from}
-use borrow.Author.Rules.{rules}
 use Rattle.query_file.proofs.faults.edge_fault.Goals as goal
 
 pub returns-then-n-from : goal.returns-then-n-from

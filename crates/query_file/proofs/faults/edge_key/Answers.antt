@@ -1,6 +1,5 @@
 -- `query_file::faults::edge_key` meets its contract. Assumes nothing.
 use mathlib.Core.Path.{◌∙◌}
-use borrow.Author.Rules.{rules}
 use Rattle.query_file.proofs.FileLaws.{key-field}
 use Rattle.query_file.proofs.faults.edge_key.Goals as goal
 

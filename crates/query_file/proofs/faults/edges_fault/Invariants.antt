@@ -1,13 +1,9 @@
 -- `query_file::faults::edges_fault` meets its contract: no edge before i has a fault, and `least` is the least key that ascends at i.
 -- Assumes nothing.
-use mathlib.Core.Path.{◌≡◌, refl, sym, ◌∙◌}
+use mathlib.Core.Path.{◌≡◌}
 use Prim.Native.Nat.{◌-◌, ◌≤◌}
-use native.Mathlib.Omega.{arith}
-use borrow.Author.Rules.{rules}
-use Rattle.lists.specs.Lists.{range}
-use Rattle.lists.specs.Refusal.{first}
 use Rattle.query_file.specs.Inner.Parts.{query_edges_fault}
-use Rattle.query_file.proofs.FileLaws.{key-lt, least_key, fault-here, least-next, edges-next, edges-stop}
+use Rattle.query_file.proofs.FileLaws.{least_key}
 use Rattle.query_file.proofs.faults.edges_fault.Given as goal
 
 abbrev pub invariant-loop-i : goal.invariant-loop-i

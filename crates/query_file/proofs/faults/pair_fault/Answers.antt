@@ -3,7 +3,6 @@ use native.Mathlib.Omega.{arith}
 use borrow.Author.Tests.{lt-ltb, le-ltb, eq-eqb, ne_eqb}
 use Rattle.query.specs.File.{pair_key}
 use Rattle.query_file.specs.Inner.Parts.{pair_from}
-use borrow.Author.Rules.{rules}
 use Rattle.query_file.proofs.faults.pair_fault.Goals as goal
 
 pub returns-then-n-low : goal.returns-then-n-low

@@ -1,6 +1,5 @@
 -- `query_file::faults::pair_key` meets its contract. Assumes nothing.
 use mathlib.Core.Path.{◌∙◌}
-use borrow.Author.Rules.{rules}
 use Rattle.query_file.proofs.FileLaws.{pair-key-field}
 use Rattle.query_file.proofs.faults.pair_key.Goals as goal
 

@@ -3,7 +3,6 @@ use mathlib.Core.Path.{◌≡◌, sym, ◌∙◌, ap}
 use Prim.Native.Nat.{◌≤◌, ◌<◌}
 use native.Mathlib.Omega.{arith}
 use lib.ListN.{length}
-use borrow.Author.Rules.{rules}
 use Rattle.query.specs.File.{pair_count, pair_start, counted_size}
 use Rattle.query_file.specs.Inner.Parts.{size_fault}
 use Rattle.query_file.proofs.Structs.{at-most-pairs}

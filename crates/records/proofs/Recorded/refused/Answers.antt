@@ -1,6 +1,5 @@
 -- `records::Recorded::refused` meets its contract: a refusal has nothing to store. Assumes nothing.
 use mathlib.Core.Path.{refl}
-use borrow.Author.Rules.{rules}
 use Rattle.records.proofs.Recorded.refused.Goals as goal
 
 pub returns : goal.returns

@@ -1,9 +1,7 @@
 -- `sheet::large::any_large` meets its contract: the bits of the first i words are gathered. Assumes nothing.
 use Prim.Native.Nat.{◌-◌, ◌≤◌}
-use native.Mathlib.Omega.{arith}
-use borrow.Author.Rules.{rules}
 use lib.ListN.{length}
-use Rattle.sheet.proofs.Gathered.{Gathered, gathered_none, gathered_next, gathered-all}
+use Rattle.sheet.proofs.Gathered.{Gathered}
 use Rattle.sheet.proofs.large.any_large.Given as goal
 
 abbrev pub invariant-loop-i : goal.invariant-loop-i

@@ -2,9 +2,9 @@
 -- The line feed makes the line whole.
 use mathlib.Core.Path.{◌≡◌, sym, ◌∙◌, ap₂, subst}
 use mathlib.Core.List.{List, [], ◌++◌, append-nil}
-use Prim.Native.Nat.{ℕ, ◌+◌, ◌-◌, ◌≤◌}
+use Prim.Native.Nat.{ℕ, ◌+◌, ◌-◌}
 use native.Mathlib.Omega.{arith}
-use lib.ListN.{length, set, length-set, drop_of_length-le}
+use lib.ListN.{length, set, drop_of_length-le}
 use lib.Seq.{take_all}
 use Rattle.words.proofs.Copying.{Copied, start, next}
 use Rattle.sheet.specs.Page.{columns, line}
@@ -27,10 +27,10 @@ bounds-text-i c = omega (arith, c.loop-i.invariant.1.kept)
 
 pub loop-i-preserved : goal.loop-i-preserved
 loop-i-preserved c = let l = c.loop-i in (
-      omega arith,
-      next _ c.args.text.now _ l.i _ (rw length-blank-line (omega arith)) (omega arith) (sym (blank-at l.i (omega arith)))
-          l.invariant.1,
-    )
+  omega arith,
+  next _ c.args.text.now _ l.i _ (rw length-blank-line (omega arith)) (omega arith) (sym (blank-at l.i (omega arith)))
+      l.invariant.1,
+)
 
 pub bounds-text-80 : goal.bounds-text-80
 bounds-text-80 c = omega (arith, c.loop-i.invariant.1.kept)

@@ -1,7 +1,7 @@
 -- `sheet::lines::put_blank_lines` meets its contract: the first i lines are blank. Assumes nothing.
 use Prim.Native.Nat.{◌+◌, ◌-◌, ◌*◌}
 use native.Mathlib.Omega.{arith}
-use Rattle.sheet.proofs.Blanked.{Blanked, blanked-none, blanked-kept, blanked-line, blanked-next, blanked-page}
+use Rattle.sheet.proofs.Blanked.{blanked-none, blanked-kept, blanked-line, blanked-next, blanked-page}
 use Rattle.sheet.proofs.lines.put_blank_lines.Goals as goal
 
 pub loop-i-init : goal.loop-i-init

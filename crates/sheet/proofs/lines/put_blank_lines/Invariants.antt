@@ -1,7 +1,6 @@
 -- `sheet::lines::put_blank_lines` meets its contract: the first i lines are blank. Assumes nothing.
-use Prim.Native.Nat.{◌+◌, ◌-◌, ◌*◌}
-use native.Mathlib.Omega.{arith}
-use Rattle.sheet.proofs.Blanked.{Blanked, blanked-none, blanked-kept, blanked-line, blanked-next, blanked-page}
+use Prim.Native.Nat.{◌-◌}
+use Rattle.sheet.proofs.Blanked.{Blanked}
 use Rattle.sheet.proofs.lines.put_blank_lines.Given as goal
 
 abbrev pub invariant-loop-i : goal.invariant-loop-i

@@ -3,7 +3,6 @@ use mathlib.Core.Path.{sym}
 use lib.Seq.{length-take-le}
 use native.Mathlib.Omega.{arith}
 use Rattle.sheet.proofs.Heading.{long, heading-asks, heading-put}
-use borrow.Author.Rules.{rules}
 use Rattle.sheet.proofs.lines.put_heading.Goals as goal
 
 pub slice_bounds-put_numbers-end-2 : goal.slice_bounds-put_numbers-end-2

@@ -1,9 +1,7 @@
 -- `sheet::lines::put_numbers` meets its contract: the first i numbers are written, blanks follow. Assumes nothing.
-use Prim.Native.Nat.{◌+◌, ◌-◌, ◌*◌}
-use native.Mathlib.Omega.{arith}
-use borrow.Author.Rules.{rules}
+use Prim.Native.Nat.{◌-◌}
 use lib.ListN.{length}
-use Rattle.sheet.proofs.Numbered.{Numbered, numbered-none, numbered-kept, numbered-part, numbered_next, numbered-all, asked, fitting-at}
+use Rattle.sheet.proofs.Numbered.{Numbered}
 use Rattle.sheet.proofs.lines.put_numbers.Given as goal
 
 abbrev pub invariant-loop-i : goal.invariant-loop-i

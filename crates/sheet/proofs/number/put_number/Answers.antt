@@ -1,9 +1,7 @@
 -- `sheet::number::put_number` meets its contract: the digits after those that are left are written. Assumes nothing.
 use Prim.Native.Nat.{◌-◌}
 use native.Mathlib.Omega.{arith}
-use borrow.Author.Rules.{rules}
-use lib.ListN.{length}
-use Rattle.sheet.proofs.Numbers.{Writing, start, next, last}
+use Rattle.sheet.proofs.Numbers.{start, next, last}
 use Rattle.sheet.proofs.number.put_number.Goals as goal
 
 pub loop-i-init : goal.loop-i-init

@@ -1,9 +1,7 @@
 -- `sheet::number::put_number` meets its contract: the digits after those that are left are written. Assumes nothing.
 use Prim.Native.Nat.{◌-◌}
-use native.Mathlib.Omega.{arith}
-use borrow.Author.Rules.{rules}
 use lib.ListN.{length}
-use Rattle.sheet.proofs.Numbers.{Writing, start, next, last}
+use Rattle.sheet.proofs.Numbers.{Writing}
 use Rattle.sheet.proofs.number.put_number.Given as goal
 
 abbrev pub invariant-loop-i : goal.invariant-loop-i

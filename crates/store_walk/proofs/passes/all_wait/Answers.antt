@@ -1,9 +1,8 @@
 -- `store_walk::passes::all_wait` meets its contract: the words that it writes are there. Assumes nothing.
-use mathlib.Core.Path.{◌≡◌, refl}
-use Prim.Native.Nat.{◌+◌, ◌*◌, ◌-◌, ◌≤◌}
+use mathlib.Core.Path.{refl}
+use Prim.Native.Nat.{◌-◌}
 use native.Mathlib.Omega.{arith}
-use lib.ListN.{length, length-set}
-use borrow.Author.Rules.{rules}
+use lib.ListN.{length-set}
 use Rattle.store_step.proofs.Stepping.{block_in}
 use Rattle.store_walk.proofs.passes.all_wait.Goals as goal
 

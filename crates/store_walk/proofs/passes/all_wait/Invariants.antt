@@ -1,10 +1,7 @@
 -- `store_walk::passes::all_wait` meets its contract: the words that it writes are there. Assumes nothing.
-use mathlib.Core.Path.{◌≡◌, refl}
+use mathlib.Core.Path.{◌≡◌}
 use Prim.Native.Nat.{◌+◌, ◌*◌, ◌-◌, ◌≤◌}
-use native.Mathlib.Omega.{arith}
-use lib.ListN.{length, length-set}
-use borrow.Author.Rules.{rules}
-use Rattle.store_step.proofs.Stepping.{block_in}
+use lib.ListN.{length}
 use Rattle.store_walk.proofs.passes.all_wait.Given as goal
 
 abbrev pub invariant-loop-i : goal.invariant-loop-i

@@ -1,12 +1,8 @@
 -- `store_walk::passes::label_pass` meets its contract: the vertices of the words before i are passed. Assumes nothing.
-use mathlib.Core.Path.{◌≡◌, refl}
+use mathlib.Core.Path.{◌≡◌}
 use Prim.Native.Nat.{◌+◌, ◌*◌, ◌-◌, ◌≤◌}
-use native.Mathlib.Omega.{arith}
 use lib.ListN.{length}
-use borrow.Author.Rules.{rules}
 use Rattle.store_step.specs.Inner.Walk.{WalkedIn}
-use Rattle.store_step.proofs.Walking.{walked_on}
-use Rattle.store_step.proofs.Stepping.{undecided, holds, handed, tables-kept, block_in}
 use Rattle.store_walk.proofs.passes.label_pass.Given as goal
 
 abbrev pub invariant-loop-i : goal.invariant-loop-i

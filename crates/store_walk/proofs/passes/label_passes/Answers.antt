@@ -1,10 +1,8 @@
 -- `store_walk::passes::label_passes` meets its contract: the labels below `label` are passed. Assumes nothing.
-use mathlib.Core.Path.{◌≡◌, refl}
-use Prim.Native.Nat.{◌*◌, ◌-◌, ◌≤◌, ◌<◌}
+use mathlib.Core.Path.{refl}
+use Prim.Native.Nat.{◌-◌}
 use native.Mathlib.Omega.{arith}
-use lib.ListN.{length}
 use borrow.Author.Rules.{rules}
-use Rattle.store_step.specs.Inner.Walk.{WalkedIn}
 use Rattle.store_step.proofs.Walking.{walked_on}
 use Rattle.store_step.proofs.Stepping.{holds, handed, tables-kept}
 use Rattle.store_walk.proofs.passes.label_passes.Goals as goal

@@ -1,7 +1,6 @@
 -- `store_walk::passes::vertex_pass` meets its contract: the answer is that of the step, or undecided. Assumes nothing.
 use native.Mathlib.Omega.{arith}
 use Rattle.store_step.proofs.Stepping.{undecided, passes_on, handed, word_in}
-use borrow.Author.Rules.{rules}
 use Rattle.store_walk.proofs.passes.vertex_pass.Goals as goal
 
 pub advance-s-requires : goal.advance-s-requires

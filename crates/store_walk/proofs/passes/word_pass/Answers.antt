@@ -1,11 +1,9 @@
 -- `store_walk::passes::word_pass` meets its contract: the vertices of the word below the lowest of w are passed. Assumes nothing.
-use mathlib.Core.Path.{◌≡◌, refl, ap}
-use Prim.Native.Nat.{◌+◌, ◌*◌, ◌^◌, ◌<◌}
+use mathlib.Core.Path.{refl, ap}
+use Prim.Native.Nat.{◌<◌}
 use native.Mathlib.Omega.{arith}
-use lib.ListN.{length}
 use borrow.Author.Rules.{rules}
 use Rattle.bitset.specs.Inner.Set.{lowest_bit, without_lowest}
-use Rattle.store_step.specs.Inner.Walk.{WalkedIn}
 use Rattle.store_walk.proofs.Lowest.{lowest-most, lowest-rises}
 use Rattle.store_step.proofs.Walking.{walked_on}
 use Rattle.store_step.proofs.Stepping.{holds, handed, tables-kept, next-step}
@@ -34,7 +32,7 @@ loop-w-smaller c = c.without_lowest-w.ensures.1
 pub loop-w-preserved : goal.loop-w-preserved
 loop-w-preserved c = let low = c.lowest in
     let k : low.result < 64 = low.ensures.1 in
-    let rises : lowest_bit c.loop-w.w < lowest_bit (without_lowest c.loop-w.w) = 
+    let rises : lowest_bit c.loop-w.w < lowest_bit (without_lowest c.loop-w.w) =
     lowest-rises c.loop-w.w (omega arith) c.loop-w.invariant.1 (omega (arith, low.ensures.0)) in (
       walked_on (c.vertex_pass-fault.ensures.passed c.if-fault-ne0.false) (omega (arith, low.ensures.0, ap lowest_bit c.without_lowest-w.ensures.0)),
       omega (arith, c.loop-w.invariant.1, c.without_lowest-w.ensures.1),

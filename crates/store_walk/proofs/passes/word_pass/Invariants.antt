@@ -1,14 +1,9 @@
 -- `store_walk::passes::word_pass` meets its contract: the vertices of the word below the lowest of w are passed. Assumes nothing.
-use mathlib.Core.Path.{◌≡◌, refl, ap}
+use mathlib.Core.Path.{◌≡◌}
 use Prim.Native.Nat.{◌+◌, ◌*◌, ◌^◌, ◌<◌}
-use native.Mathlib.Omega.{arith}
 use lib.ListN.{length}
-use borrow.Author.Rules.{rules}
-use Rattle.bitset.specs.Inner.Set.{lowest_bit, without_lowest}
+use Rattle.bitset.specs.Inner.Set.{lowest_bit}
 use Rattle.store_step.specs.Inner.Walk.{WalkedIn}
-use Rattle.store_walk.proofs.Lowest.{lowest-most, lowest-rises}
-use Rattle.store_step.proofs.Walking.{walked_on}
-use Rattle.store_step.proofs.Stepping.{holds, handed, tables-kept, next-step}
 use Rattle.store_walk.proofs.passes.word_pass.Given as goal
 
 abbrev pub invariant-loop-w : goal.invariant-loop-w

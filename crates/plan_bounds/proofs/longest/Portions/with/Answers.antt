@@ -1,5 +1,4 @@
 -- `plan_bounds::longest::Portions::with` meets its contract (`seen_more`). Assumes nothing.
-use borrow.Author.Rules.{rules}
 use mathlib.Core.Path.{refl}
 use native.Mathlib.Omega.{arith}
 use Rattle.plan_bounds.proofs.Seeing.{seen_more}

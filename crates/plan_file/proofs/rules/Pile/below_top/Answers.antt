@@ -1,7 +1,6 @@
 -- `plan_file::rules::Pile::below_top` meets its contract (`get_or-stack`). Assumes nothing.
 use mathlib.Core.Path.{sym}
 use Rattle.plan.proofs.Stacks.{get_or-stack}
-use borrow.Author.Rules.{rules}
 use Rattle.plan_file.proofs.rules.Pile.below_top.Goals as goal
 
 pub returns : goal.returns
