@@ -1,4 +1,4 @@
-//! Links the static library that `rt staticlib rizhavaan` writes.
+//! Links the static library that `crates/build` writes.
 use std::path::Path;
 
 fn main() {
@@ -10,7 +10,7 @@ fn main() {
     println!("cargo:rerun-if-env-changed=RIZHAVAAN_LIB_DIR");
     println!("cargo:rerun-if-changed={}", library.display());
     if !library.exists() {
-        println!("cargo:warning={} is missing: `rt staticlib rizhavaan` writes it", library.display());
+        println!("cargo:warning={} is missing: `crates/build` writes it", library.display());
     }
     println!("cargo:rustc-link-search=native={folder}");
     println!("cargo:rustc-link-lib=static=rizhavaan");

@@ -80,11 +80,11 @@ impl Drop for Folder {
     }
 }
 
-/// The program that `rt check trace` builds, or the one that TRACE_BIN names.
+/// The program that `crates/build trace` makes, or the one that TRACE_BIN names.
 fn program() -> PathBuf {
     let built = || concat!(env!("CARGO_MANIFEST_DIR"), "/target/bin/trace").into();
     let path = std::env::var_os("TRACE_BIN").unwrap_or_else(built);
-    fs::canonicalize(&path).unwrap_or_else(|_| panic!("{path:?} is missing: `rt check trace` writes it"))
+    fs::canonicalize(&path).unwrap_or_else(|_| panic!("{path:?} is missing: `crates/build trace` writes it"))
 }
 
 /// What the program prints where these stand in its folder, and these variables in its environment.
