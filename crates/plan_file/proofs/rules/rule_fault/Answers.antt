@@ -10,17 +10,17 @@ use Rattle.plan_file.proofs.rules.rule_fault.Goals as goal
 
 pub returns-then-pile-lt1 : goal.returns-then-pile-lt1
 returns-then-pile-lt1 c = let a = c.args in
-    rw c.o-1.given.1 (sym (extend-none _ _ (masks_in a.pile) (omega (arith, depth_is a.pile, c.if-pile-lt1.true))))
+    rw c.in-Extend.is (sym (extend-none _ _ (masks_in a.pile) (omega (arith, depth_is a.pile, c.if-pile-lt1.true))))
 
 pub below_top-requires : goal.below_top-requires
 below_top-requires c = (c.if-pile-lt1.false, c.requires.2)
 
 pub extend_fault-requires : goal.extend_fault-requires
-extend_fault-requires c = (c.requires.0, named-vertex _ c.requires.0 _ (rw c.o-1.given.1 at c.requires.1))
+extend_fault-requires c = (c.requires.0, named-vertex _ c.requires.0 _ (rw c.in-Extend.is at c.requires.1))
 
 pub returns-then-pile-lt2 : goal.returns-then-pile-lt2
 returns-then-pile-lt2 c = let a = c.args in
-    rw c.enum_told-in-Join-1.given.1 (sym (join-few _ (masks_in a.pile) (omega (arith, depth_is a.pile, c.if-pile-lt2.true))))
+    rw c.in-Join.is (sym (join-few _ (masks_in a.pile) (omega (arith, depth_is a.pile, c.if-pile-lt2.true))))
 
 pub below_top-requires-in-Join : goal.below_top-requires-in-Join
 below_top-requires-in-Join c = (c.if-pile-lt2.false, c.requires.2)
@@ -33,14 +33,14 @@ join_fault-requires c = c.requires.0
 
 pub returns-in-Scan : goal.returns-in-Scan
 unfolding rule_fault
-returns-in-Scan c = rw c.enum_told-1.given.1
+returns-in-Scan c = rw c.in-Scan.is
 
 pub returns-else-pile-lt1 : goal.returns-else-pile-lt1
 returns-else-pile-lt1 c = let a = c.args in
-    rw c.o-1.given.1 (c.extend_fault.ensures ∙ rw c.below_top.ensures (sym (extend-some _ _ (masks_in a.pile) (omega (arith, depth_is a.pile, c.if-pile-lt1.false)))))
+    rw c.in-Extend.is (c.extend_fault.ensures ∙ rw c.below_top.ensures (sym (extend-some _ _ (masks_in a.pile) (omega (arith, depth_is a.pile, c.if-pile-lt1.false)))))
 
 pub returns-else-pile-lt2 : goal.returns-else-pile-lt2
 returns-else-pile-lt2 c = let a = c.args in
-    rw c.enum_told-in-Join-1.given.1
+    rw c.in-Join.is
     (c.join_fault.ensures
     ∙ rw (c.below_top-in-Join-2.ensures, c.below_top-in-Join.ensures) (sym (join-two _ (masks_in a.pile) (omega (arith, depth_is a.pile, c.if-pile-lt2.false)))))

@@ -20,7 +20,7 @@ pub operator-o-requires : goal.operator-o-requires
 operator-o-requires c = omega (arith, c.loop-i-test.true, c.requires.1)
 
 pub rule_fault-fault-requires : goal.rule_fault-fault-requires
-rule_fault-fault-requires c = let named : has (query_in c.args.q) (operator_is c.operator-o.result) ≡ true = named-at _ _ c.loop-i.i _ c.requires.2 c.loop-i-test.true c.operator-o.ensures in
+rule_fault-fault-requires c = let named : has (query_in c.args.q) (operator_is c.operator-o.result) ≡ true = named-at (query_in c.args.q) _ c.loop-i.i _ c.requires.2 c.loop-i-test.true c.operator-o.ensures in
     (c.requires.0, named, omega (arith, c.loop-i.invariant.1, c.loop-i-test.true, c.requires.1))
 
 pub returns-then-fault-ne0 : goal.returns-then-fault-ne0
@@ -30,7 +30,7 @@ returns-then-fault-ne0 c = c.rule_fault-fault.ensures
     ∙ rules-stop _ _ _ c.loop-i.i _ c.loop-i-test.true c.operator-o.ensures (rw c.rule_fault-fault.ensures at c.if-fault-ne0.true))
 
 pub covered-pile-requires : goal.covered-pile-requires
-covered-pile-requires c = let named : has (query_in c.args.q) (operator_is c.operator-o.result) ≡ true = named-at _ _ c.loop-i.i _ c.requires.2 c.loop-i-test.true c.operator-o.ensures in
+covered-pile-requires c = let named : has (query_in c.args.q) (operator_is c.operator-o.result) ≡ true = named-at (query_in c.args.q) _ c.loop-i.i _ c.requires.2 c.loop-i-test.true c.operator-o.ensures in
     (c.requires.0, named, omega (arith, c.loop-i.invariant.1, c.loop-i-test.true, c.requires.1), sym c.rule_fault-fault.ensures ∙ c.if-fault-ne0.false)
 
 pub overflow_add-i : goal.overflow_add-i
