@@ -12,10 +12,8 @@ use Rattle.lists.specs.Lists.{bit, count_if}
 use Rattle.lists.proofs.Count.{count-snoc, length-keep}
 use Rattle.graph.specs.Graph.{covers}
 use Rattle.adjacency.proofs.Between.{any-covered}
+use Rattle.plan_bounds.proofs.longest.covered.Invariants.{counted}
 use Rattle.plan_bounds.proofs.longest.covered.Goals as goal
-
-abbrev counted : ℕ → List ℕ → ℕ → ℕ
-counted l s i = count_if (λ (k : ℕ). covers l (k / 65536)) (take i s)
 
 next : (l : ℕ) (s : List ℕ) (i : ℕ) → i < length s → counted l s (i + 1) ≡ counted l s i + bit (covers l (get_or s i 0 / 65536))
 next l s i h = ap (counted l s) (add-one i) ∙ (ap (count_if (λ (k : ℕ). covers l (k / 65536))) (take-suc s i 0 h) ∙ count-snoc (λ (k : ℕ). covers l (k / 65536)) (take i s) (get_or s i 0))

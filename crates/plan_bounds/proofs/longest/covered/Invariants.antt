@@ -1,8 +1,15 @@
 -- `plan_bounds::longest::covered` meets its contract: the loop's invariant: those of the entries before i are counted. Assumes nothing.
 use mathlib.Core.Path.{◌≡◌}
-use Prim.Native.Nat.{◌-◌, ◌≤◌}
-use lib.ListN.{length}
+use mathlib.Core.List.{List}
+use Prim.Native.Nat.{ℕ, ◌-◌, ◌/◌, ◌≤◌}
+use lib.ListN.{length, take}
+use Rattle.lists.specs.Lists.{count_if}
+use Rattle.graph.specs.Graph.{covers}
 use Rattle.plan_bounds.proofs.longest.covered.Given as goal
+
+-- Of the first i entries, those that a query edge's label covers.
+abbrev pub counted : ℕ → List ℕ → ℕ → ℕ
+counted l s i = count_if (λ (k : ℕ). covers l (k / 65536)) (take i s)
 
 abbrev pub invariant-loop-i : goal.invariant-loop-i
 invariant-loop-i l = (l.i ≤ length l.list) × (l.count ≤ l.i) × (l.count ≡ counted l.label l.list l.i)
