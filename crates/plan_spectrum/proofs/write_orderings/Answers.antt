@@ -41,7 +41,7 @@ returns-then-limit-ne0 c = let l = c.list_orderings-plans in
     rw c.refused-then-limit-ne0.ensures
     (settled-refused (graph_in c.args.store.now) (query_in c.args.q) (length c.args.work.now) c.args.words.now
     (subst (λ (n : ℕ). n ≤ length c.args.words.now) (entries-room c.args.q l.result l.ensures.0.number) c.if-words-plans.false)
-    r.new.1.1.1.1.1.0 r.result r.ensures c.if-limit-ne0.true)
+    r.new.costs r.result r.ensures c.if-limit-ne0.true)
 
 pub write_entries-requires : goal.write_entries-requires
 write_entries-requires c = let lied : let a = c.args in Lie a.store.now a.q c.list_orderings-plans.new.out c.list_orderings-plans.result a.work.now (replicate 144 0) = record {
@@ -55,8 +55,8 @@ write_entries-requires c = let lied : let a = c.args in Lie a.store.now a.q c.li
 } in
     let l = c.list_orderings-plans in
     let r = c.run_orderings-limit in (
-      list_long c.args.store.now c.args.q l.new.1.0 l.result c.args.work.now (replicate 144 0) (lied),
-      subst (λ (n : ℕ). l.result ≤ n) (sym (r.auto.1.1.1.1.1.0 ∙ length-replicate {A = ℕ} 144 0)) l.ensures.1,
+      list_long c.args.store.now c.args.q l.new.out l.result c.args.work.now (replicate 144 0) (lied),
+      subst (λ (n : ℕ). l.result ≤ n) (sym (r.auto.costs ∙ length-replicate {A = ℕ} 144 0)) l.ensures.1,
       subst (λ (n : ℕ). l.result * n ≤ length c.args.words.now) (omega (arith, c.requires.0.at_least_lem)) c.if-words-plans.false,
       omega (arith, c.requires.0.at_most),
     )
@@ -76,7 +76,7 @@ returns c = let lied : let a = c.args in Lie a.store.now a.q c.list_orderings-pl
     let w = c.write_entries in
     settled-written (graph_in c.args.store.now) (query_in c.args.q) (length c.args.work.now) c.args.words.now
     (subst (λ (n : ℕ). n ≤ length c.args.words.now) (entries-room c.args.q l.result l.ensures.0.number) c.if-words-plans.false)
-    r.new.1.1.1.1.1.0 r.result r.ensures c.if-limit-ne0.false l.result w.new.1.1.1.1.0 l.ensures.0.number
+    r.new.costs r.result r.ensures c.if-limit-ne0.false l.result w.new.out l.ensures.0.number
     (w.ensures
     ∙ ap (λ (e : List ℕ). e ++ drop (length e) c.args.words.now)
-    (entries-written c.args.store.now c.args.q l.new.1.0 l.result c.args.work.now (replicate 144 0) (lied) r.new.1.1.1.1.1.0 r.result r.ensures c.if-limit-ne0.false))
+    (entries-written c.args.store.now c.args.q l.new.out l.result c.args.work.now (replicate 144 0) (lied) r.new.costs r.result r.ensures c.if-limit-ne0.false))
