@@ -21,7 +21,7 @@ pub after-pile-requires : goal.after-pile-requires
 after-pile-requires c = (
   c.requires.0,
   c.requires.1,
-  named-at _ _ c.loop-i.i _ c.requires.3 c.loop-i-test.true c.operator.ensures,
+  named-at (query_in c.args.q) _ c.loop-i.i _ c.requires.3 c.loop-i-test.true c.operator.ensures,
   omega (arith, turned-deep _ _ _ _ _ c.loop-i.invariant.1, c.loop-i-test.true, c.requires.2),
 )
 
