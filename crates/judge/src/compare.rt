@@ -27,7 +27,7 @@ fn judge_again(
     first: &List,
     refusal: u32,
     kind: usize,
-    tally: &mut Tally,
+    tally: &mut Tally<impl Print>,
 ) -> u32 {
     let mut list = [MARK; LIST_WORDS];
     let b = runs::run(store, files, with, &mut list, tally);
@@ -43,7 +43,13 @@ fn judge_again(
 
 // Lengths of scratch ever closer to the need: those below `short` give 20, and it grows by ever smaller steps
 // until it serves. Answers the need.
-fn judge_scratch(store: &Store, files: &Files, ran: Ran, first: &List, tally: &mut Tally) -> usize {
+fn judge_scratch(
+    store: &Store,
+    files: &Files,
+    ran: Ran,
+    first: &List,
+    tally: &mut Tally<impl Print>,
+) -> usize {
     let mut w = ran.with;
     let mut short = 0;
     for k in 0..14usize {
@@ -63,7 +69,7 @@ fn judge_need(
     ran: Ran,
     need: usize,
     first: &List,
-    tally: &mut Tally,
+    tally: &mut Tally<impl Print>,
 ) {
     let mut w = ran.with;
     w.cache = !ran.with.cache;
@@ -76,7 +82,7 @@ fn judge_need(
 }
 
 // A list of just the rows' words serves as well; one a word shorter gives 21.
-fn judge_list(store: &Store, files: &Files, ran: Ran, first: &List, tally: &mut Tally) {
+fn judge_list(store: &Store, files: &Files, ran: Ran, first: &List, tally: &mut Tally<impl Print>) {
     let mut w = ran.with;
     judge_again(store, files, w, ran.answer, first, 0, LIST, tally);
     if 0 < w.list {
@@ -88,7 +94,13 @@ fn judge_list(store: &Store, files: &Files, ran: Ran, first: &List, tally: &mut 
 
 // As many records as the plan has operators serve as well; one fewer gives 22, also where the list is too
 // short.
-fn judge_records(store: &Store, files: &Files, ran: Ran, first: &List, tally: &mut Tally) {
+fn judge_records(
+    store: &Store,
+    files: &Files,
+    ran: Ran,
+    first: &List,
+    tally: &mut Tally<impl Print>,
+) {
     let mut w = ran.with;
     w.records = operators(files);
     judge_again(store, files, w, ran.answer, first, 0, RECORDS, tally);
@@ -99,7 +111,13 @@ fn judge_records(store: &Store, files: &Files, ran: Ran, first: &List, tally: &m
 }
 
 // Lists, records and scratches of many lengths, and a count.
-fn judge_lengths(store: &Store, files: &Files, ran: Ran, first: &List, tally: &mut Tally) {
+fn judge_lengths(
+    store: &Store,
+    files: &Files,
+    ran: Ran,
+    first: &List,
+    tally: &mut Tally<impl Print>,
+) {
     judge_list(store, files, ran, first, tally);
     judge_records(store, files, ran, first, tally);
     let need = judge_scratch(store, files, ran, first, tally);
@@ -108,7 +126,7 @@ fn judge_lengths(store: &Store, files: &Files, ran: Ran, first: &List, tally: &m
 }
 
 // Counts a plan with rows, one with joined rows, and the rows.
-fn count_rows(a: RunAnswer, tally: &mut Tally) {
+fn count_rows(a: RunAnswer, tally: &mut Tally<impl Print>) {
     count(tally, FILLED, (0 < a.rows) as u64);
     count(tally, JOINED, ((0 < a.build) & (0 < a.probe)) as u64);
     count(tally, ROWS, a.rows as u64);
@@ -123,7 +141,7 @@ pub fn judge_plan(
     with: Lent,
     matches: &mut Matches,
     plans: usize,
-    tally: &mut Tally,
+    tally: &mut Tally<impl Print>,
 ) -> bool {
     let mut first = [MARK; LIST_WORDS];
     let mut w = with;

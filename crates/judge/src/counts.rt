@@ -22,7 +22,12 @@ pub fn lend(store: &[u32], files: &[u8], w: Lent, scratch: &mut [u32]) -> CountA
 
 // A count over marked words. It clears the scratch, and touches nothing past what it is lent; refused, it
 // answers zeros.
-fn marked_count(store: &Store, files: &Files, w: Lent, tally: &mut Tally) -> CountAnswer {
+fn marked_count(
+    store: &Store,
+    files: &Files,
+    w: Lent,
+    tally: &mut Tally<impl Print>,
+) -> CountAnswer {
     let mut scratch = [MARK; LIST_WORDS];
     let c = lend(store, files, w, &mut scratch);
     let zeros = (c.rows == 0) & (c.cost == 0) & (c.build == 0) & (c.probe == 0) & (c.need == 0);
@@ -40,7 +45,7 @@ pub fn judge_count(
     with: Lent,
     a: RunAnswer,
     need: usize,
-    tally: &mut Tally,
+    tally: &mut Tally<impl Print>,
 ) {
     let mut w = with;
     w.scratch = need;

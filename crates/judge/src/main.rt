@@ -13,16 +13,19 @@ mod stream;
 mod worked;
 
 use judge_matcher::tally;
+use judge_matcher::tally::Tally;
+use std::io;
 
 const GRAPHS: usize = 1800;
 
 const SEED: u64 = 88172645463325252;
 
-fn main() {
+fn main(rt: HostRuntime) -> io::Result<()> {
     let mut seed = SEED;
-    let mut tally = [0u64; tally::WORDS];
-    io::write_all(libc::STDOUT_FILENO, b"judge\n");
+    let mut tally = Tally::new(&rt);
+    rt.write_all(b"judge\n")?;
     worked::judge_cases(&mut seed, &mut tally);
     stream::judge_graphs(GRAPHS, &mut seed, &mut tally);
-    tally::print(&tally);
+    tally::print(&tally)?;
+    tally.written
 }

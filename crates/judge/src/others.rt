@@ -87,7 +87,7 @@ fn judge_stores(
     with: Lent,
     words: usize,
     seed: &mut u64,
-    tally: &mut Tally,
+    tally: &mut Tally<impl Print>,
 ) {
     let mut w = with;
     judge(tally, OTHERS, same_run(one, two, files, w, words));
@@ -124,7 +124,7 @@ pub fn judge_others(
     files: &Files,
     with: Lent,
     seed: u64,
-    tally: &mut Tally,
+    tally: &mut Tally<impl Print>,
 ) {
     let labels = queries::named(q);
     if labels % 2 == 1 {

@@ -48,7 +48,7 @@ fn adds_up(records: [Record; COUNT], count: usize, a: RunAnswer) -> bool {
 
 // Refused, a run answers zeros and touches no record; accepted, the records of its operators add up, and no
 // other is touched.
-pub fn judge(filled: Filled, count: usize, tally: &mut Tally) {
+pub fn judge(filled: Filled, count: usize, tally: &mut Tally<impl Print>) {
     let a = filled.answer;
     let records = filled.records;
     let zeros = (a.rows == 0) & (a.cost == 0) & (a.build == 0) & (a.probe == 0);

@@ -26,7 +26,13 @@ pub fn lend(store: &[u32], files: &[u8], w: Lent, scratch: &mut [u32], list: &mu
 
 // A run over marked words of scratch and list and marked records. It clears the scratch, and touches no word
 // of the list past the last row, no record past the last operator, and nothing past what it is lent.
-pub fn run(store: &Store, files: &Files, w: Lent, list: &mut List, tally: &mut Tally) -> RunAnswer {
+pub fn run(
+    store: &Store,
+    files: &Files,
+    w: Lent,
+    list: &mut List,
+    tally: &mut Tally<impl Print>,
+) -> RunAnswer {
     let mut scratch = [MARK; LIST_WORDS];
     let filled = lend(store, files, w, &mut scratch, list);
     let a = filled.answer;

@@ -24,7 +24,13 @@ fn set_query(q: &mut Query, n: usize, m: usize, first: usize, apart: usize) {
 
 // Over a graph of so many places and all edge labels, each edge drawn so many times of a hundred, the query
 // reads and two plans list its matches.
-fn judge_over(q: &Query, places: usize, percent: usize, seed: &mut u64, tally: &mut Tally) {
+fn judge_over(
+    q: &Query,
+    places: usize,
+    percent: usize,
+    seed: &mut u64,
+    tally: &mut Tally<impl Print>,
+) {
     let mut g = [0usize; graphs::WORDS];
     let mut store = [0u32; LIST_WORDS];
     let mut copy = *q;
@@ -35,7 +41,13 @@ fn judge_over(q: &Query, places: usize, percent: usize, seed: &mut u64, tally: &
 }
 
 // Over a graph of as many places as the query has vertices, and over one of a place more.
-fn judge_accepted(q: &Query, edges: usize, percent: usize, seed: &mut u64, tally: &mut Tally) {
+fn judge_accepted(
+    q: &Query,
+    edges: usize,
+    percent: usize,
+    seed: &mut u64,
+    tally: &mut Tally<impl Print>,
+) {
     let places = q[queries::VERTICES];
     judge(tally, WORKED, q[queries::EDGES] == edges);
     judge_over(q, places, percent, seed, tally);
@@ -43,7 +55,7 @@ fn judge_accepted(q: &Query, edges: usize, percent: usize, seed: &mut u64, tally
 }
 
 // A file with the counts of n vertices and m edges, of the size that they take without pairs.
-fn judge_refused(n: usize, m: usize, tally: &mut Tally) {
+fn judge_refused(n: usize, m: usize, tally: &mut Tally<impl Print>) {
     let mut file = [0u8; FILE_BYTES];
     put_field(&mut file, 0, 4, n);
     put_field(&mut file, 4, 5, m);
@@ -52,7 +64,7 @@ fn judge_refused(n: usize, m: usize, tally: &mut Tally) {
     judge(tally, WORKED, refusal == 8);
 }
 
-pub fn judge_cases(seed: &mut u64, tally: &mut Tally) {
+pub fn judge_cases(seed: &mut u64, tally: &mut Tally<impl Print>) {
     let mut q = [0usize; queries::WORDS];
     // The path through 8 vertices.
     set_query(&mut q, 8, 7, 5, 36);

@@ -23,7 +23,7 @@ fn call(store: &[u32], files: &[u8], w: Lent) -> BoundsAnswer {
 }
 
 // Bounds; refused, they are zeros.
-fn bounds(store: &Store, files: &Files, w: Lent, tally: &mut Tally) -> BoundsAnswer {
+fn bounds(store: &Store, files: &Files, w: Lent, tally: &mut Tally<impl Print>) -> BoundsAnswer {
     let a = call(store, files, w);
     let words = (a.list_words == 0) & (a.scratch_words == 0);
     judge_refusal(tally, a.refusal, words & (a.cost == 0) & (a.largest == 0));
@@ -36,7 +36,7 @@ fn are(a: BoundsAnswer, m: Bounds) -> bool {
 }
 
 // Counts the numbers that are too large for 64 bits.
-fn count_passed(a: BoundsAnswer, tally: &mut Tally) {
+fn count_passed(a: BoundsAnswer, tally: &mut Tally<impl Print>) {
     count(tally, PASSED, (a.list_words == TOP) as u64);
     count(tally, PASSED + 1, (a.scratch_words == TOP) as u64);
     count(tally, PASSED + 2, (a.cost == TOP) as u64);
@@ -44,7 +44,13 @@ fn count_passed(a: BoundsAnswer, tally: &mut Tally) {
 }
 
 // The bounds are the model's, whatever lies past the words of the store.
-pub fn judge_exact(store: &Store, files: &Files, w: Lent, m: Bounds, tally: &mut Tally) {
+pub fn judge_exact(
+    store: &Store,
+    files: &Files,
+    w: Lent,
+    m: Bounds,
+    tally: &mut Tally<impl Print>,
+) {
     let mut more = w;
     more.store = add(w.store, 5);
     let a = bounds(store, files, w, tally);
@@ -55,14 +61,20 @@ pub fn judge_exact(store: &Store, files: &Files, w: Lent, m: Bounds, tally: &mut
 }
 
 // What is refused, and with what.
-fn judge_refused(store: &Store, files: &Files, w: Lent, refusal: u32, tally: &mut Tally) {
+fn judge_refused(
+    store: &Store,
+    files: &Files,
+    w: Lent,
+    refusal: u32,
+    tally: &mut Tally<impl Print>,
+) {
     let a = bounds(store, files, w, tally);
     judge(tally, ORDER, a.refusal == refusal);
 }
 
 // A store without its last word, a plan of a byte less or more, a query of a byte less or more: the query's
 // refusals come first, the store's last.
-pub fn judge_damaged(store: &Store, files: &Files, with: Lent, tally: &mut Tally) {
+pub fn judge_damaged(store: &Store, files: &Files, with: Lent, tally: &mut Tally<impl Print>) {
     let mut w = with;
     w.store = sub(with.store, 1);
     judge_refused(store, files, w, 19, tally);
@@ -82,7 +94,14 @@ fn are_same(a: BoundsAnswer, b: BoundsAnswer) -> bool {
 }
 
 // The same over each of two stores.
-fn judge_same(one: &Store, two: &Store, files: &Files, w: Lent, words: usize, tally: &mut Tally) {
+fn judge_same(
+    one: &Store,
+    two: &Store,
+    files: &Files,
+    w: Lent,
+    words: usize,
+    tally: &mut Tally<impl Print>,
+) {
     let mut v = w;
     v.store = words;
     let a = bounds(one, files, w, tally);
@@ -97,7 +116,7 @@ pub fn judge_stores(
     files: &Files,
     with: Lent,
     words: usize,
-    tally: &mut Tally,
+    tally: &mut Tally<impl Print>,
 ) {
     let mut w = with;
     judge_same(one, two, files, w, words, tally);

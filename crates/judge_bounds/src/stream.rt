@@ -30,7 +30,7 @@ fn judge_plan(
     with: Lent,
     others: usize,
     seed: &mut u64,
-    tally: &mut Tally,
+    tally: &mut Tally<impl Print>,
 ) {
     let mut own = *files;
     let mut w = with;
@@ -45,7 +45,13 @@ fn judge_plan(
 
 // A second store with other edges of labels that a query does not name; answers its words, or 0 where the
 // query names any label.
-fn load_others(g: &Graph, q: &Query, two: &mut Store, seed: &mut u64, tally: &mut Tally) -> usize {
+fn load_others(
+    g: &Graph,
+    q: &Query,
+    two: &mut Store,
+    seed: &mut u64,
+    tally: &mut Tally<impl Print>,
+) -> usize {
     let labels = queries::named(q);
     if labels % 2 == 1 {
         return 0;
@@ -65,7 +71,7 @@ fn judge_query(
     one: &Store,
     plans: usize,
     seed: &mut u64,
-    tally: &mut Tally,
+    tally: &mut Tally<impl Print>,
 ) {
     let mut files = [0u8; FILE_BYTES];
     let mut two = [0u32; LIST_WORDS];
@@ -83,14 +89,14 @@ fn judge_query(
     }
 }
 
-fn load(g: &Graph, store: &mut Store, tally: &mut Tally) {
+fn load(g: &Graph, store: &mut Store, tally: &mut Tally<impl Print>) {
     let words = store_words(g[graphs::VERTICES], g[graphs::EDGES]);
     load_file(g, store, words, tally);
     count(tally, GRAPHS, 1);
 }
 
 // Four random queries of a random graph.
-fn random_graph(seed: &mut u64, tally: &mut Tally) {
+fn random_graph(seed: &mut u64, tally: &mut Tally<impl Print>) {
     let mut g = [0usize; graphs::WORDS];
     let mut store = [0u32; LIST_WORDS];
     let mut q = [0usize; queries::WORDS];
@@ -138,7 +144,7 @@ fn draw_dense(g: &mut Graph, seed: &mut u64) -> bool {
 }
 
 // Trees over a dense graph.
-fn dense_graph(seed: &mut u64, tally: &mut Tally) {
+fn dense_graph(seed: &mut u64, tally: &mut Tally<impl Print>) {
     let mut g = [0usize; graphs::WORDS];
     let mut store = [0u32; LIST_WORDS];
     let mut q = [0usize; queries::WORDS];
@@ -154,13 +160,13 @@ fn dense_graph(seed: &mut u64, tally: &mut Tally) {
     }
 }
 
-pub fn judge_graphs(graphs: usize, seed: &mut u64, tally: &mut Tally) {
+pub fn judge_graphs(graphs: usize, seed: &mut u64, tally: &mut Tally<impl Print>) {
     for _ in 0..graphs {
         random_graph(seed, tally);
     }
 }
 
-pub fn judge_dense(graphs: usize, seed: &mut u64, tally: &mut Tally) {
+pub fn judge_dense(graphs: usize, seed: &mut u64, tally: &mut Tally<impl Print>) {
     for _ in 0..graphs {
         dense_graph(seed, tally);
     }

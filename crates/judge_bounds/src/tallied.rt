@@ -1,5 +1,6 @@
 // What is counted, as words of the tally, and printed at the end.
 use judge_matcher::tally::*;
+use std::io;
 
 // The kinds of results: bounds against the model, over another store, and which refusal comes first.
 pub const BOUNDS: usize = 0;
@@ -14,25 +15,25 @@ pub const PASSED: usize = 16;
 
 pub const WIDE: usize = 20;
 
-pub fn print(tally: &Tally) {
+pub fn print(tally: &Tally<impl Print>) -> io::Result<()> {
     print_counts(
         b"compared: bounds against the model, over other edges of labels that the query does not name, refusals in order\n",
         tally,
         BOUNDS,
         ORDER + 1,
-    );
+    )?;
     print_counts(
         b"compared: refused with zeros\n",
         tally,
         REFUSED,
         REFUSED + 1,
-    );
-    print_counts(b"differed in all\n", tally, DIFFERED, DIFFERED + 1);
-    print_counts(b"graphs, queries\n", tally, GRAPHS, QUERIES + 1);
+    )?;
+    print_counts(b"differed in all\n", tally, DIFFERED, DIFFERED + 1)?;
+    print_counts(b"graphs, queries\n", tally, GRAPHS, QUERIES + 1)?;
     print_counts(
         b"list words, scratch words, costs and largest rows too large for 64 bits, of plans over dense graphs\n",
         tally,
         PASSED,
         WIDE + 1,
-    );
+    )
 }

@@ -154,7 +154,7 @@ fn same_records(one: [Record; COUNT], two: [Record; COUNT], count: usize) -> boo
 }
 
 // Find clears the scratch and no more; refused, it answers zeros.
-fn judge_left(f: Found, scratch: &List, w: Lent, tally: &mut Tally) {
+fn judge_left(f: Found, scratch: &List, w: Lent, tally: &mut Tally<impl Print>) {
     let a = f.answer;
     let zeros = (a.rows == 0) & (a.cost == 0) & (a.build == 0) & (a.probe == 0) & (f.bytes == 0);
     judge(tally, CLEARED, all_are(scratch, 0, w.scratch, 0));
@@ -174,7 +174,7 @@ fn same_left(f: Found, two: Filled) -> bool {
 
 // Both over one store. The plan's length is that of its operators: a count of 5 bits, 7 of the scan and 5 of
 // each extend.
-fn judge_both(store: &Store, files: &Files, w: Lent, tally: &mut Tally) {
+fn judge_both(store: &Store, files: &Files, w: Lent, tally: &mut Tally<impl Print>) {
     let mut plan = [9u8; FILE_BYTES];
     let mut plan_two = [9u8; FILE_BYTES];
     let mut scratch = [MARK; LIST_WORDS];
@@ -198,7 +198,13 @@ fn judge_both(store: &Store, files: &Files, w: Lent, tally: &mut Tally) {
 }
 
 // In ample bytes, words and records, and in few of each; over a store without its last word.
-pub fn judge_find(store: &Store, files: &Files, with: Lent, seed: &mut u64, tally: &mut Tally) {
+pub fn judge_find(
+    store: &Store,
+    files: &Files,
+    with: Lent,
+    seed: &mut u64,
+    tally: &mut Tally<impl Print>,
+) {
     let mut w = with;
     judge_both(store, files, w, tally);
     w.cache = true;

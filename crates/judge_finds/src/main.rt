@@ -6,17 +6,19 @@ mod finds;
 mod stream;
 mod tallied;
 
-use judge_matcher::tally;
+use judge_matcher::tally::Tally;
+use std::io;
 
 const GRAPHS: usize = 600;
 
 const SEED: u64 = 88172645463325252;
 
-fn main() {
+fn main(rt: HostRuntime) -> io::Result<()> {
     let mut seed = SEED;
-    let mut tally = [0u64; tally::WORDS];
-    io::write_all(libc::STDOUT_FILENO, b"judge_finds\n");
+    let mut tally = Tally::new(&rt);
+    rt.write_all(b"judge_finds\n")?;
     stream::judge_graphs(GRAPHS, &mut seed, &mut tally);
-    tallied::print_compared(&tally);
-    tallied::print_answers(&tally);
+    tallied::print_compared(&tally)?;
+    tallied::print_answers(&tally)?;
+    tally.written
 }

@@ -7,7 +7,13 @@ use judge_matcher::stores::load_file;
 use judge_matcher::tally::*;
 
 // A random query of a loaded graph.
-fn random_query(g: &Graph, store: &Store, words: usize, seed: &mut u64, tally: &mut Tally) {
+fn random_query(
+    g: &Graph,
+    store: &Store,
+    words: usize,
+    seed: &mut u64,
+    tally: &mut Tally<impl Print>,
+) {
     let mut q = [0usize; queries::WORDS];
     let mut files = [0u8; FILE_BYTES];
     queries::random(&mut q, g, seed);
@@ -27,14 +33,20 @@ fn random_query(g: &Graph, store: &Store, words: usize, seed: &mut u64, tally: &
 }
 
 // Four random queries of a loaded graph.
-fn random_queries(g: &Graph, store: &Store, words: usize, seed: &mut u64, tally: &mut Tally) {
+fn random_queries(
+    g: &Graph,
+    store: &Store,
+    words: usize,
+    seed: &mut u64,
+    tally: &mut Tally<impl Print>,
+) {
     for _ in 0..4usize {
         random_query(g, store, words, seed, tally);
     }
 }
 
 // A random graph, and its queries.
-fn random_graph(seed: &mut u64, tally: &mut Tally) {
+fn random_graph(seed: &mut u64, tally: &mut Tally<impl Print>) {
     let mut g = [0usize; graphs::WORDS];
     let mut store = [0u32; LIST_WORDS];
     graphs::random(&mut g, seed);
@@ -43,7 +55,7 @@ fn random_graph(seed: &mut u64, tally: &mut Tally) {
     random_queries(&g, &store, words, seed, tally);
 }
 
-pub fn judge_graphs(graphs: usize, seed: &mut u64, tally: &mut Tally) {
+pub fn judge_graphs(graphs: usize, seed: &mut u64, tally: &mut Tally<impl Print>) {
     for _ in 0..graphs {
         random_graph(seed, tally);
     }

@@ -1,6 +1,6 @@
 // What is counted here beside the kinds of the other judges, and how it is printed.
 use judge_matcher::tally::*;
-use libc::STDOUT_FILENO;
+use std::io;
 
 // Find compared with the two.
 pub const FOUND: usize = 24;
@@ -11,7 +11,7 @@ const ACCEPTED: usize = 25;
 
 const GIVEN: usize = 32;
 
-pub fn count_given(refusal: u32, tally: &mut Tally) {
+pub fn count_given(refusal: u32, tally: &mut Tally<impl Print>) {
     if refusal == 0 {
         count(tally, ACCEPTED, 1);
         return;
@@ -19,33 +19,31 @@ pub fn count_given(refusal: u32, tally: &mut Tally) {
     count(tally, GIVEN + refusal as usize % 32, 1);
 }
 
-fn print_count(value: u64) {
-    io::write_all(STDOUT_FILENO, b" ");
-    io::print_decimal(STDOUT_FILENO, value);
+fn print_count(out: &impl Print, value: u64) -> io::Result<()> {
+    out.write_all(b" ")?;
+    out.print(value)
 }
 
-pub fn print_compared(tally: &Tally) {
-    io::write_all(
-        STDOUT_FILENO,
+pub fn print_compared(tally: &Tally<impl Print>) -> io::Result<()> {
+    tally.out.write_all(
         b"compared: Find with Draw plan and then Run, words untouched by Find and Load, scratch cleared, refused with zeros\n",
-    );
-    print_count(tally[FOUND]);
-    print_count(tally[UNTOUCHED]);
-    print_count(tally[CLEARED]);
-    print_count(tally[REFUSED]);
-    io::write_all(STDOUT_FILENO, b"\n");
+    )?;
+    print_count(&tally.out, tally.words[FOUND])?;
+    print_count(&tally.out, tally.words[UNTOUCHED])?;
+    print_count(&tally.out, tally.words[CLEARED])?;
+    print_count(&tally.out, tally.words[REFUSED])?;
+    tally.out.write_all(b"\n")
 }
 
-pub fn print_answers(tally: &Tally) {
-    io::write_all(
-        STDOUT_FILENO,
-        b"accepted; refused with 19, 20, 21, 22 and 24\n",
-    );
-    print_count(tally[ACCEPTED]);
-    print_count(tally[GIVEN + 19]);
-    print_count(tally[GIVEN + 20]);
-    print_count(tally[GIVEN + 21]);
-    print_count(tally[GIVEN + 22]);
-    print_count(tally[GIVEN + 24]);
-    io::write_all(STDOUT_FILENO, b"\n");
+pub fn print_answers(tally: &Tally<impl Print>) -> io::Result<()> {
+    tally
+        .out
+        .write_all(b"accepted; refused with 19, 20, 21, 22 and 24\n")?;
+    print_count(&tally.out, tally.words[ACCEPTED])?;
+    print_count(&tally.out, tally.words[GIVEN + 19])?;
+    print_count(&tally.out, tally.words[GIVEN + 20])?;
+    print_count(&tally.out, tally.words[GIVEN + 21])?;
+    print_count(&tally.out, tally.words[GIVEN + 22])?;
+    print_count(&tally.out, tally.words[GIVEN + 24])?;
+    tally.out.write_all(b"\n")
 }

@@ -16,7 +16,13 @@ fn lend_stores(old: &[u32], file: &[u8], new: &mut [u32], words: usize) -> Loade
 }
 
 // Apply changes to an old store, to so many marked words.
-fn apply(old: &[u32], file: &[u8], new: &mut Store, words: usize, tally: &mut Tally) -> Loaded {
+fn apply(
+    old: &[u32],
+    file: &[u8],
+    new: &mut Store,
+    words: usize,
+    tally: &mut Tally<impl Print>,
+) -> Loaded {
     *new = [MARK; LIST_WORDS];
     let a = lend_stores(old, file, new, words);
     judge_store(a, new, words, tally);
@@ -24,14 +30,14 @@ fn apply(old: &[u32], file: &[u8], new: &mut Store, words: usize, tally: &mut Ta
 }
 
 // What changes to a store are refused with.
-fn judge_unfit(old: &[u32], file: &[u8], refusal: u32, tally: &mut Tally) {
+fn judge_unfit(old: &[u32], file: &[u8], refusal: u32, tally: &mut Tally<impl Print>) {
     let mut new = [0u32; LIST_WORDS];
     let a = apply(old, file, &mut new, MAX_WORDS, tally);
     judge(tally, DAMAGED, a.refusal == refusal);
 }
 
 // Changes, with a byte more, a byte less, and to a store without its last word.
-fn judge_damaged(old: &[u32], long: &[u8], tally: &mut Tally) {
+fn judge_damaged(old: &[u32], long: &[u8], tally: &mut Tally<impl Print>) {
     let bytes = sub(long.len(), 1);
     judge_unfit(old, long, 27, tally);
     judge_unfit(old, part(long, 0, sub(bytes, 1)), 27, tally);
@@ -45,7 +51,13 @@ fn judge_damaged(old: &[u32], long: &[u8], tally: &mut Tally) {
 
 // Changes to an old store make the one that the edited graph's file loads to; in a word less they are refused
 // with 5. Answers its words.
-fn judge_applied(h: &Graph, old: &[u32], file: &[u8], new: &mut Store, tally: &mut Tally) -> usize {
+fn judge_applied(
+    h: &Graph,
+    old: &[u32],
+    file: &[u8],
+    new: &mut Store,
+    tally: &mut Tally<impl Print>,
+) -> usize {
     let mut loaded = [0u32; LIST_WORDS];
     let words = store_words(h[graphs::VERTICES], h[graphs::EDGES]);
     let a = load_file(h, &mut loaded, words, tally);
@@ -60,7 +72,13 @@ fn judge_applied(h: &Graph, old: &[u32], file: &[u8], new: &mut Store, tally: &m
 
 // Changes to a graph, applied to its store; to the new store, which has them already, they are refused with
 // 28.
-fn judge_changed(g: &Graph, h: &Graph, old: &Store, new: &mut Store, tally: &mut Tally) {
+fn judge_changed(
+    g: &Graph,
+    h: &Graph,
+    old: &Store,
+    new: &mut Store,
+    tally: &mut Tally<impl Print>,
+) {
     let mut edits = [0u8; graphs::FILE_BYTES];
     let size = graphs::write_changes(h, g, &mut edits);
     let long = part(&edits, 0, add(size, 1));
@@ -73,7 +91,7 @@ fn judge_changed(g: &Graph, h: &Graph, old: &Store, new: &mut Store, tally: &mut
 }
 
 // Changes of few or many of a graph's edges, and back. The numbers drawn here are none of the stream's.
-pub fn random_changes(g: &Graph, old: &Store, seed: u64, tally: &mut Tally) {
+pub fn random_changes(g: &Graph, old: &Store, seed: u64, tally: &mut Tally<impl Print>) {
     let mut own = seed;
     let mut h = *g;
     let mut new = [0u32; LIST_WORDS];

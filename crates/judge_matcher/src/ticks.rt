@@ -82,7 +82,7 @@ pub fn are_matches(
 }
 
 // Two lists had each match once, and so the same rows.
-pub fn judge_pair(matches: &Matches, files: &Files, other: &Files, tally: &mut Tally) {
+pub fn judge_pair(matches: &Matches, files: &Files, other: &Files, tally: &mut Tally<impl Print>) {
     let end = add(TICKS, word(matches, TOTAL));
     let twice = all_are(matches, TICKS, end, 2);
     judge(tally, PAIRS, twice);

@@ -48,7 +48,7 @@ fn orderings(
     w: Lent,
     made: usize,
     words: &mut Words,
-    tally: &mut Tally,
+    tally: &mut Tally<impl Print>,
 ) -> OrderingsAnswer {
     let mut scratch = [MARK; MAX_SCRATCH];
     let a = call(store, files, w, &mut scratch, words);
@@ -71,7 +71,13 @@ fn are_entries(words: &Words, l: &Spectrum) -> bool {
 }
 
 // All orderings are listed.
-fn judge_listed(store: &Store, files: &Files, w: Lent, l: &Spectrum, tally: &mut Tally) {
+fn judge_listed(
+    store: &Store,
+    files: &Files,
+    w: Lent,
+    l: &Spectrum,
+    tally: &mut Tally<impl Print>,
+) {
     let mut words = [MARK; MAX_WORDS];
     let a = orderings(store, files, w, l[model::LENGTH], &mut words, tally);
     let plans = (a.refusal == 0) & (a.plans == l[model::PLANS]);
@@ -85,7 +91,7 @@ pub fn judge_refused(
     w: Lent,
     refusal: u32,
     kind: usize,
-    tally: &mut Tally,
+    tally: &mut Tally<impl Print>,
 ) {
     let mut words = [MARK; MAX_WORDS];
     let a = orderings(store, files, w, 0, &mut words, tally);
@@ -93,7 +99,13 @@ pub fn judge_refused(
 }
 
 // In a list of the entries and in a longer one; in one a word short or of no words, 32.
-fn judge_lengths(store: &Store, files: &Files, with: Lent, l: &Spectrum, tally: &mut Tally) {
+fn judge_lengths(
+    store: &Store,
+    files: &Files,
+    with: Lent,
+    l: &Spectrum,
+    tally: &mut Tally<impl Print>,
+) {
     let mut w = with;
     w.words = l[model::LENGTH];
     w.scratch = l[model::GREATEST];
@@ -111,7 +123,13 @@ fn judge_lengths(store: &Store, files: &Files, with: Lent, l: &Spectrum, tally: 
 
 // In every length of scratch from a word below the least need on: those below the greatest give 20, whichever
 // ordering is the first to need more.
-fn judge_scratch(store: &Store, files: &Files, with: Lent, l: &Spectrum, tally: &mut Tally) {
+fn judge_scratch(
+    store: &Store,
+    files: &Files,
+    with: Lent,
+    l: &Spectrum,
+    tally: &mut Tally<impl Print>,
+) {
     let mut w = with;
     w.words = l[model::LENGTH];
     for scratch in sub(l[model::LEAST], 1)..l[model::GREATEST] % MAX_SCRATCH {
@@ -122,7 +140,13 @@ fn judge_scratch(store: &Store, files: &Files, with: Lent, l: &Spectrum, tally: 
 
 // A store without its last word in too few words of list and scratch; a query of a byte less or more, over
 // this store too.
-pub fn judge_damaged(store: &Store, files: &Files, with: Lent, large: bool, tally: &mut Tally) {
+pub fn judge_damaged(
+    store: &Store,
+    files: &Files,
+    with: Lent,
+    large: bool,
+    tally: &mut Tally<impl Print>,
+) {
     let mut w = with;
     let refusal = if large { 31 } else { 19 };
     w.store = sub(with.store, 1);
@@ -136,7 +160,13 @@ pub fn judge_damaged(store: &Store, files: &Files, with: Lent, large: bool, tall
     judge_refused(store, files, w, 7, ORDER, tally);
 }
 
-pub fn judge_all(store: &Store, files: &Files, w: Lent, l: &Spectrum, tally: &mut Tally) {
+pub fn judge_all(
+    store: &Store,
+    files: &Files,
+    w: Lent,
+    l: &Spectrum,
+    tally: &mut Tally<impl Print>,
+) {
     judge_lengths(store, files, w, l, tally);
     judge_scratch(store, files, w, l, tally);
 }
@@ -173,7 +203,7 @@ pub fn judge_stores(
     l: &Spectrum,
     words: usize,
     seed: &mut u64,
-    tally: &mut Tally,
+    tally: &mut Tally<impl Print>,
 ) {
     let mut w = with;
     w.words = l[model::LENGTH];

@@ -9,16 +9,18 @@ mod search;
 mod stream;
 mod tallied;
 
-use judge_matcher::tally;
+use judge_matcher::tally::Tally;
+use std::io;
 
 const GRAPHS: usize = 400;
 
 const SEED: u64 = 88172645463325252;
 
-fn main() {
+fn main(rt: HostRuntime) -> io::Result<()> {
     let mut seed = SEED;
-    let mut tally = [0u64; tally::WORDS];
-    io::write_all(libc::STDOUT_FILENO, b"judge_orderings\n");
+    let mut tally = Tally::new(&rt);
+    rt.write_all(b"judge_orderings\n")?;
     stream::judge_graphs(GRAPHS, &mut seed, &mut tally);
-    tallied::print(&tally);
+    tallied::print(&tally)?;
+    tally.written
 }

@@ -21,7 +21,7 @@ fn judge_others(
     w: Lent,
     l: &Spectrum,
     seed: &mut u64,
-    tally: &mut Tally,
+    tally: &mut Tally<impl Print>,
 ) {
     let labels = queries::named(q);
     if labels % 2 == 1 {
@@ -43,7 +43,7 @@ fn judge_small(
     files: &Files,
     w: Lent,
     seed: &mut u64,
-    tally: &mut Tally,
+    tally: &mut Tally<impl Print>,
 ) {
     let mut l = [0usize; model::WORDS];
     if !model::list(g, q, &mut l) {
@@ -55,7 +55,13 @@ fn judge_small(
     judge_others(g, q, store, files, w, &l, seed, tally);
 }
 
-fn judge_query(g: &Graph, q: &mut Query, store: &Store, seed: &mut u64, tally: &mut Tally) {
+fn judge_query(
+    g: &Graph,
+    q: &mut Query,
+    store: &Store,
+    seed: &mut u64,
+    tally: &mut Tally<impl Print>,
+) {
     let mut files = [0u8; FILE_BYTES];
     let w = Lent {
         store: store_words(g[graphs::VERTICES], g[graphs::EDGES]),
@@ -75,7 +81,7 @@ fn judge_query(g: &Graph, q: &mut Query, store: &Store, seed: &mut u64, tally: &
 }
 
 // Eight random queries of a random graph of up to nine places and three edge labels.
-fn random_graph(seed: &mut u64, tally: &mut Tally) {
+fn random_graph(seed: &mut u64, tally: &mut Tally<impl Print>) {
     let mut g = [0usize; graphs::WORDS];
     let mut store = [0u32; LIST_WORDS];
     let mut q = [0usize; queries::WORDS];
@@ -92,7 +98,7 @@ fn random_graph(seed: &mut u64, tally: &mut Tally) {
     }
 }
 
-pub fn judge_graphs(graphs: usize, seed: &mut u64, tally: &mut Tally) {
+pub fn judge_graphs(graphs: usize, seed: &mut u64, tally: &mut Tally<impl Print>) {
     for _ in 0..graphs {
         random_graph(seed, tally);
     }

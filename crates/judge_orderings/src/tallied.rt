@@ -2,6 +2,7 @@
 use judge_matcher::tally::{
     CLEARED, DIFFERED, GRAPHS, QUERIES, REFUSALS, REFUSED, Tally, UNTOUCHED, print_counts,
 };
+use std::io;
 
 // The kinds of results: lists against the model, lists too short, scratches below the need, over another
 // store, and which refusal comes first.
@@ -22,32 +23,32 @@ pub const SMALL: usize = 17;
 
 pub const ORDERINGS: usize = 18;
 
-pub fn print(tally: &Tally) {
+pub fn print(tally: &Tally<impl Print>) -> io::Result<()> {
     print_counts(
         b"compared: lists against the model, lists too short, scratches below the need, over other edges of labels that the query does not name, refusals in order\n",
         tally,
         LISTED,
         ORDER + 1,
-    );
+    )?;
     print_counts(
         b"compared: words untouched, scratch cleared, refused with zeros\n",
         tally,
         UNTOUCHED,
         REFUSED + 1,
-    );
-    print_counts(b"differed in all\n", tally, DIFFERED, DIFFERED + 1);
-    print_counts(b"graphs, queries\n", tally, GRAPHS, QUERIES + 1);
+    )?;
+    print_counts(b"differed in all\n", tally, DIFFERED, DIFFERED + 1)?;
+    print_counts(b"graphs, queries\n", tally, GRAPHS, QUERIES + 1)?;
     print_counts(
         b"queries of more than five vertices, those whose orderings were listed, orderings\n",
         tally,
         LARGE,
         ORDERINGS + 1,
-    );
+    )?;
     print_counts(
         b"refused with 19, 20, 31, 32\n",
         tally,
         REFUSALS + 19,
         REFUSALS + 21,
-    );
-    print_counts(b"", tally, REFUSALS + 31, REFUSALS + 33);
+    )?;
+    print_counts(b"", tally, REFUSALS + 31, REFUSALS + 33)
 }

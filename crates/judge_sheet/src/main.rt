@@ -7,7 +7,7 @@
 
 ghost use Rattle.std.specs.Prelude.{◌≤◌, ◌<◌, length};
 
-use libc::STDOUT_FILENO;
+use std::io;
 
 const WORDS: usize = 952;
 
@@ -33,69 +33,87 @@ fn words(at: usize, word: u32) -> [u32; WORDS]
 }
 
 // Writes what a page answers, and the bytes where there is one; answers the page count.
-fn show(list: &[u32], n: usize, rows: usize, page: usize, bytes: &mut [u8]) -> usize {
+fn show(
+    rt: &impl Print,
+    list: &[u32],
+    n: usize,
+    rows: usize,
+    page: usize,
+    bytes: &mut [u8],
+) -> io::Result<usize> {
     let answer = sheet::page(list, n, rows, page, bytes);
-    io::print_decimal(STDOUT_FILENO, answer.refusal as u64);
-    io::write_all(STDOUT_FILENO, b" ");
-    io::print_decimal(STDOUT_FILENO, answer.pages as u64);
-    io::write_all(STDOUT_FILENO, b"\n");
+    rt.print(answer.refusal as u64)?;
+    rt.write_all(b" ")?;
+    rt.print(answer.pages as u64)?;
+    rt.write_all(b"\n")?;
     if answer.refusal == 0 {
-        io::write_all(STDOUT_FILENO, bytes);
-        io::write_all(STDOUT_FILENO, b"\n");
+        rt.write_all(bytes)?;
+        rt.write_all(b"\n")?;
     }
-    answer.pages
+    Ok(answer.pages)
 }
 
 // The pages of a list: the first, then from the last down.
-fn show_pages(list: &[u32], n: usize, rows: usize, bytes: &mut [u8]) {
-    let mut page = show(list, n, rows, 1, bytes);
+fn show_pages(
+    rt: &impl Print,
+    list: &[u32],
+    n: usize,
+    rows: usize,
+    bytes: &mut [u8],
+) -> io::Result<()> {
+    let mut page = show(rt, list, n, rows, 1, bytes)?;
     while 1 < page {
-        show(list, n, rows, page, bytes);
+        show(rt, list, n, rows, page, bytes)?;
         page -= 1;
     }
+    Ok(())
 }
 
 // Each condition of 33, the product of 8 and the rows that is 0 in 64 bits among them; pages that there are
 // not.
-fn show_refused(list: &[u32], bytes: &mut [u8]) {
-    show(list, 1, 119, 1, bytes);
-    show(list, 9, 100, 1, bytes);
-    show(list, 8, 2305843009213693952, 1, bytes);
-    show(list, 8, 120, 1, bytes);
-    show(list, 8, 119, 0, bytes);
-    show(list, 8, 119, 4, bytes);
+fn show_refused(rt: &impl Print, list: &[u32], bytes: &mut [u8]) -> io::Result<()> {
+    show(rt, list, 1, 119, 1, bytes)?;
+    show(rt, list, 9, 100, 1, bytes)?;
+    show(rt, list, 8, 2305843009213693952, 1, bytes)?;
+    show(rt, list, 8, 120, 1, bytes)?;
+    show(rt, list, 8, 119, 0, bytes)?;
+    show(rt, list, 8, 119, 4, bytes)?;
+    Ok(())
 }
 
 // A page in one byte too few.
-fn show_short(list: &[u32], bytes: &mut [u8])
+fn show_short(rt: &impl Print, list: &[u32], bytes: &mut [u8]) -> io::Result<()>
     requires { 4859 ≤ length bytes.old }
 {
-    show(list, 8, 119, 3, &mut bytes[..4859]);
+    show(rt, list, 8, 119, 3, &mut bytes[..4859])?;
+    Ok(())
 }
 
 // 65,536 in the last of 119 rows is refused on every page, before a page that there is not and too few bytes
 // are; past 118 rows it is not read.
-fn show_large(bytes: &mut [u8]) {
+fn show_large(rt: &impl Print, bytes: &mut [u8]) -> io::Result<()> {
     let list = words(236, 65536);
-    show(&list, 2, 119, 1, bytes);
-    show(&list, 2, 119, 0, &mut bytes[..0]);
-    show(&list, 2, 118, 2, bytes);
+    show(rt, &list, 2, 119, 1, bytes)?;
+    show(rt, &list, 2, 119, 0, &mut bytes[..0])?;
+    show(rt, &list, 2, 118, 2, bytes)?;
+    Ok(())
 }
 
 // The pages of all lists.
-fn show_lists(list: &[u32], bytes: &mut [u8]) {
+fn show_lists(rt: &impl Print, list: &[u32], bytes: &mut [u8]) -> io::Result<()> {
     let mut k = 0;
     while k < LISTS {
-        show_pages(list, WIDTHS[k], ROWS[k], bytes);
+        show_pages(rt, list, WIDTHS[k], ROWS[k], bytes)?;
         k += 1;
     }
+    Ok(())
 }
 
-fn main() {
+fn main(rt: HostRuntime) -> io::Result<()> {
     let mut bytes = [63u8; 4864];
     let list = words(0, 65535);
-    show_lists(&list, &mut bytes);
-    show_refused(&list, &mut bytes);
-    show_short(&list, &mut bytes);
-    show_large(&mut bytes);
+    show_lists(&rt, &list, &mut bytes)?;
+    show_refused(&rt, &list, &mut bytes)?;
+    show_short(&rt, &list, &mut bytes)?;
+    show_large(&rt, &mut bytes)
 }

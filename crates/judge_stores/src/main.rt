@@ -12,49 +12,51 @@ mod stream;
 use crate::stream::*;
 use judge_matcher::tally;
 use judge_matcher::tally::{Tally, print_counts};
+use std::io;
 
 const SEED: u64 = 88172645463325252;
 
-fn print(tally: &Tally) {
+fn print(tally: &Tally<impl Print>) -> io::Result<()> {
     print_counts(
         b"stores of up to 40 vertices: right, damaged and accepted, refused\n",
         tally,
         SMALL,
         SMALL + 3,
-    );
+    )?;
     print_counts(
         b"stores of 300 to 2,000 vertices, of 1 to 255 labels: right, damaged and accepted, refused\n",
         tally,
         MIDDLE,
         MIDDLE + 3,
-    );
+    )?;
     print_counts(
         b"stores of 8,192 and 8,193 vertices: right, damaged and accepted, refused\n",
         tally,
         LARGE,
         LARGE + 3,
-    );
+    )?;
     print_counts(
         b"stores with lists of more than 65,535 entries: right, damaged and accepted, refused\n",
         tally,
         LONG,
         LONG + 3,
-    );
+    )?;
     print_counts(
         b"differed in all\n",
         tally,
         tally::DIFFERED,
         tally::DIFFERED + 1,
-    );
+    )
 }
 
-fn main() {
+fn main(rt: HostRuntime) -> io::Result<()> {
     let mut seed = SEED;
-    let mut tally = [0u64; tally::WORDS];
-    io::write_all(libc::STDOUT_FILENO, b"judge_stores\n");
+    let mut tally = Tally::new(&rt);
+    rt.write_all(b"judge_stores\n")?;
     judge_small(&mut seed, &mut tally);
     judge_middle(&mut seed, &mut tally);
     judge_large(&mut seed, &mut tally);
     judge_long(&mut seed, &mut tally);
-    print(&tally);
+    print(&tally)?;
+    tally.written
 }

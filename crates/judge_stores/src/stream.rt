@@ -18,7 +18,7 @@ pub const LARGE: usize = 6;
 pub const LONG: usize = 9;
 
 // The engine's answer is the model's.
-fn judge_words(s: &[u32], copy: &mut Words, kind: usize, tally: &mut Tally) {
+fn judge_words(s: &[u32], copy: &mut Words, kind: usize, tally: &mut Tally<impl Print>) {
     let right = model::is_store(s, copy);
     let fault = store_fault(s);
     let expected = if right { 0 } else { 19 };
@@ -30,7 +30,7 @@ fn judge_words(s: &[u32], copy: &mut Words, kind: usize, tally: &mut Tally) {
 }
 
 // A store as it was made is right, also with words past it; without its last word it is not.
-fn judge_right(s: &Words, copy: &mut Words, l: Layout, kind: usize, tally: &mut Tally) {
+fn judge_right(s: &Words, copy: &mut Words, l: Layout, kind: usize, tally: &mut Tally<impl Print>) {
     let words = used(l);
     let made = model::is_store(first(s, words), copy);
     let same = store_fault(first(s, words)) == 0;
@@ -46,7 +46,7 @@ fn judge_damaged(
     l: Layout,
     kind: usize,
     seed: &mut u64,
-    tally: &mut Tally,
+    tally: &mut Tally<impl Print>,
 ) {
     let one = damage::exchange(s, damage::random(s, l, seed));
     if chance(seed, 30) {
@@ -67,7 +67,7 @@ fn judge_store(
     times: usize,
     kind: usize,
     seed: &mut u64,
-    tally: &mut Tally,
+    tally: &mut Tally<impl Print>,
 ) {
     let l = make(s, copy, shape, seed);
     if MAX_WORDS < add(used(l), 3) {
@@ -99,7 +99,7 @@ fn random_shape(vertices: usize, labels: usize, gap: usize, seed: &mut u64) -> S
     }
 }
 
-pub fn judge_small(seed: &mut u64, tally: &mut Tally) {
+pub fn judge_small(seed: &mut u64, tally: &mut Tally<impl Print>) {
     let mut s = [0u32; MAX_WORDS];
     let mut copy = [0u32; MAX_WORDS];
     for _ in 0..600usize {
@@ -113,7 +113,7 @@ pub fn judge_small(seed: &mut u64, tally: &mut Tally) {
 
 const MIDDLES: [usize; 4] = [300, 1024, 1025, 2000];
 
-pub fn judge_middle(seed: &mut u64, tally: &mut Tally) {
+pub fn judge_middle(seed: &mut u64, tally: &mut Tally<impl Print>) {
     let mut s = [0u32; MAX_WORDS];
     let mut copy = [0u32; MAX_WORDS];
     for i in 0..64usize {
@@ -123,7 +123,7 @@ pub fn judge_middle(seed: &mut u64, tally: &mut Tally) {
     }
 }
 
-pub fn judge_large(seed: &mut u64, tally: &mut Tally) {
+pub fn judge_large(seed: &mut u64, tally: &mut Tally<impl Print>) {
     let mut s = [0u32; MAX_WORDS];
     let mut copy = [0u32; MAX_WORDS];
     for i in 0..8usize {
@@ -143,7 +143,7 @@ fn long_shape(i: usize) -> Shape {
     }
 }
 
-pub fn judge_long(seed: &mut u64, tally: &mut Tally) {
+pub fn judge_long(seed: &mut u64, tally: &mut Tally<impl Print>) {
     let mut s = [0u32; MAX_WORDS];
     let mut copy = [0u32; MAX_WORDS];
     for i in 0..2usize {

@@ -1,10 +1,9 @@
--- `judge_sheet::show_pages` is safe and ends. Assumes nothing.
-use mathlib.Core.Path.{◌≡◌}
-use lib.ListN.{length}
+-- The pages up to `page` are still to be shown.
+use Rattle.std.proofs.Common.{◌≡◌, length}
 use Rattle.judge_sheet.proofs.show_pages.Given as goal
 
 abbrev pub invariant-loop-page : goal.invariant-loop-page
-invariant-loop-page l = length l.bytes ≡ length l.initial.bytes
+invariant-loop-page g l = length l.bytes ≡ length l.initial.bytes
 
 abbrev pub decreases-loop-page : goal.decreases-loop-page
-decreases-loop-page l = l.page
+decreases-loop-page g l = l.page

@@ -1,5 +1,5 @@
--- `judge_sheet::words` is safe and ends. Assumes nothing.
-use Prim.Native.Nat.{◌-◌, ◌≤◌}
+-- The words before `i` are put.
+use Rattle.std.proofs.Common.{◌-◌, ◌≤◌}
 use Rattle.judge_sheet.proofs.words.Given as goal
 
 abbrev pub invariant-loop-i : goal.invariant-loop-i

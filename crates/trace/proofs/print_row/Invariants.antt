@@ -1,10 +1,6 @@
--- `trace::print_row` is safe and ends. Assumes nothing.
-use Prim.Native.Nat.{◌-◌}
-use lib.ListN.{length}
+-- The words from `i` on are still to be printed.
+use Rattle.std.proofs.Common.{◌-◌, length}
 use Rattle.trace.proofs.print_row.Given as goal
 
-abbrev pub invariant-loop-i : goal.invariant-loop-i
-invariant-loop-i l = Unit {0}
-
 abbrev pub decreases-loop-i : goal.decreases-loop-i
-decreases-loop-i l = length l.row - l.i
+decreases-loop-i g l = length l.row - l.i

@@ -1,9 +1,6 @@
--- `trace::print_rows` is safe and ends. Assumes nothing.
-use Prim.Native.Nat.{◌-◌}
+-- The rows from `i` on are still to be printed.
+use Rattle.std.proofs.Common.{◌-◌}
 use Rattle.trace.proofs.print_rows.Given as goal
 
-abbrev pub invariant-loop-i : goal.invariant-loop-i
-invariant-loop-i l = Unit {0}
-
 abbrev pub decreases-loop-i : goal.decreases-loop-i
-decreases-loop-i l = l.rows - l.i
+decreases-loop-i g l = l.rows - l.i
