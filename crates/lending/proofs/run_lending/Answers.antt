@@ -31,6 +31,5 @@ fills-all cache store query plan scratch cleared list listed records k r long mo
 
 pub returns-then-held-gt-MAX_OPERATORS : goal.returns-then-held-gt-MAX_OPERATORS
 returns-then-held-gt-MAX_OPERATORS c = let a = c.args in
-    let long : length a.held.records ≡ 31
-    = sym (length-map a.held.records (R.the_field).into) ∙ (LL.owed D.the_type D'.the_laws a.held _ c.type_inv.1.1.1.1.1.1.0).0.1.0.1 in
+    let long : length a.held.records ≡ 31 = let h = c.well_formed in ? in
     fills-all a.cache a.store.now a.query.now a.plan.now a.scratch.now _ a.list.now _ a.held.records a.held.lent c.lend.result long c.if-held-gt-MAX_OPERATORS.true c.lend.ensures

@@ -57,7 +57,7 @@ write_entries-requires c = let lied : let a = c.args in Lie a.store.now a.q c.li
     let r = c.run_orderings-limit in (
       list_long c.args.store.now c.args.q l.new.out l.result c.args.work.now (replicate 144 0) (lied),
       subst (λ (n : ℕ). l.result ≤ n) (sym (r.auto.costs ∙ length-replicate {A = ℕ} 144 0)) l.ensures.1,
-      subst (λ (n : ℕ). l.result * n ≤ length c.args.words.now) (omega (arith, c.requires.0.at_least_lem)) c.if-words-plans.false,
+      subst (λ (n : ℕ). l.result * n ≤ length c.args.words.now) (omega (arith, c.requires.0.at-least)) c.if-words-plans.false,
       omega (arith, c.requires.0.at_most),
     )
 

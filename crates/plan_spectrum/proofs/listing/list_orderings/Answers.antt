@@ -8,7 +8,7 @@ use Rattle.plan_spectrum.proofs.Scanning.{scan-start, scan-fits, scan-done, scan
 use Rattle.plan_spectrum.proofs.listing.list_orderings.Goals as goal
 
 pub overflow_sub-width : goal.overflow_sub-width
-overflow_sub-width c = omega (arith, c.requires.0.at_least_lem)
+overflow_sub-width c = omega (arith, c.requires.0.at-least)
 
 pub loop-i-init : goal.loop-i-init
 loop-i-init c = scan-start c.args.q c.requires.0 c.args.out.now c.requires.1
@@ -26,7 +26,7 @@ ends-requires c = (
 )
 
 pub overflow_sub-q : goal.overflow_sub-q
-overflow_sub-q c = omega (arith, c.requires.0.at_least_lem)
+overflow_sub-q c = omega (arith, c.requires.0.at-least)
 
 pub overflow_mul-found : goal.overflow_mul-found
 overflow_mul-found c = let lp = c.loop-i in
