@@ -1,11 +1,12 @@
 -- `lending::run_lending` meets its contract: more records than there are count as all. Assumes nothing.
 -- All records are lent, whether as many or more are asked for.
+use borrow.Author.Rules.{rules}
 use mathlib.Core.Path.{◌≡◌, sym, ◌∙◌}
 use mathlib.Core.Bool.{Bool}
 use mathlib.Core.List.{List}
 use Prim.Native.Nat.{ℕ, ◌<◌}
 use native.Mathlib.Omega.{arith}
-use lib.ListN.{length, take, drop, length-map, drop_of_length-le}
+use lib.ListN.{length, take, drop, drop_of_length-le}
 use lib.Seq.{take_all}
 use denote.Struct.Laws as LL
 use Rattle.run_spec.specs.declared.Record.{Record}
@@ -31,5 +32,5 @@ fills-all cache store query plan scratch cleared list listed records k r long mo
 
 pub returns-then-held-gt-MAX_OPERATORS : goal.returns-then-held-gt-MAX_OPERATORS
 returns-then-held-gt-MAX_OPERATORS c = let a = c.args in
-    let long : length a.held.records ≡ 31 = let h = c.well_formed in ? in
+    let long : length a.held.records ≡ 31 = search rules in
     fills-all a.cache a.store.now a.query.now a.plan.now a.scratch.now _ a.list.now _ a.held.records a.held.lent c.lend.result long c.if-held-gt-MAX_OPERATORS.true c.lend.ensures
