@@ -3,4 +3,4 @@ use mathlib.Core.Path.{sym}
 use Rattle.rizhavaan.proofs.rizhavaan_check_plan.Goals as goal
 
 pub returns : goal.returns
-returns c = sym c.check_plan-answer.ensures
+returns c = record { answer = sym c.check_plan-answer.ensures }
