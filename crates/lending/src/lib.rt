@@ -29,8 +29,7 @@ pub struct Filled {
     pub records: [Record; Plan::MAX_OPERATORS],
 }
 
-// Run, which is lent no more records than there are. A slice of structs is made of an array, so it is proved
-// by hand.
+// Run, which is lent no more records than there are.
 fn lend(
     store: &[u32],
     query: &[u8],
