@@ -7,7 +7,7 @@
 mod compare;
 mod counts;
 mod others;
-mod records;
+mod recorded;
 mod runs;
 mod stream;
 mod worked;

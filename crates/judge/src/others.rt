@@ -1,6 +1,6 @@
 // Edges of labels that a query does not name: over a second store that has others of them, Run, Count and
 // Draw plan answer and leave the same. Bounds and All orderings have judges of their own, which do so too.
-use crate::records::COUNT;
+use crate::recorded::COUNT;
 use crate::{counts, runs};
 use judge_inputs::graphs::Graph;
 use judge_inputs::queries::Query;

@@ -1,5 +1,5 @@
 // Run over marked words, with what it leaves there judged.
-use crate::records;
+use crate::recorded;
 use judge_matcher::files::operators;
 use judge_matcher::lent::*;
 use judge_matcher::slices::*;
@@ -12,7 +12,7 @@ fn call_run(store: &[u32], files: &[u8], w: Lent, scratch: &mut [u32], list: &mu
     let query = part(files, 0, w.query);
     let plan = part(files, PLAN, w.plan);
     let cache = w.cache;
-    let lent = records::marked(w.records);
+    let lent = recorded::marked(w.records);
     lending::run_lending(store, query, plan, cache, scratch, list, lent)
 }
 
@@ -38,7 +38,7 @@ pub fn run(
     let a = filled.answer;
     let rows = row_words(a.rows, w.width);
     let untouched = is_marked(&scratch, w.scratch, w.scratch) & is_marked(list, rows, w.list);
-    records::judge(filled, operators(files), tally);
+    recorded::judge(filled, operators(files), tally);
     judge(tally, CLEARED, all_are(&scratch, 0, w.scratch, 0));
     judge(tally, UNTOUCHED, untouched);
     a

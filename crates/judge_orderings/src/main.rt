@@ -5,7 +5,7 @@
 
 mod calls;
 mod model;
-mod search;
+mod searching;
 mod stream;
 mod tallied;
 
