@@ -73,8 +73,8 @@ def by_position(fields, names):
 
 
 class Turner:
-    def __init__(self, names, where, said, shorts):
-        self.names, self.where, self.said, self.shorts = names, where, said, shorts
+    def __init__(self, names, where, said):
+        self.names, self.where, self.said = names, where, said
         self.aliases = {"c"}
         self.of_requires = {}
 
@@ -298,7 +298,6 @@ def convert(crate, path, names, said, module):
                     said.append(f"left: {where}: cannot read: {first[:80]}")
                     return False
     invariants, answers, helpers = [], [], []
-    shorts = {}
     new_of = {}
     for name in order:
         d = decls[name]
@@ -309,11 +308,8 @@ def convert(crate, path, names, said, module):
             new_of[name] = got
     # helpers that take a place
     placed, inlined, at_places = {}, {}, set()
-    TYPES = {}
     for name in order:
         d = decls[name]
-        if d["clauses"] == [] and "abbrev" not in d["mods"] and False:
-            pass
         m = re.match(r"(?s)tie\.([\w-]+)((?: (?:invariant|decreases)-[\w-]+)*)\s*→\s*(.*)", d["type"])
         if m and len(d["clauses"]) == 1:
             c = re.match(r"(?s)(%s)\s+(\w+)\s*=\s*(.*)" % WORD, d["clauses"][0])
@@ -348,10 +344,10 @@ def convert(crate, path, names, said, module):
             c = re.match(r"(?s)(%s)\s+(\w+)((?:\s+[\w'{}-]+)*)\s*=\s*(.*)" % WORD, d["clauses"][0])
             if c:
                 place = names.by_plain[plain(m[2])]
-                t = Turner(names, where, said, shorts)
+                t = Turner(names, where, said)
                 t.aliases = {m[1]}
                 kind = t.body(m[3], place)
-                t = Turner(names, where, said, shorts)
+                t = Turner(names, where, said)
                 t.aliases = {c[2]}
                 more = f"λ {c[3].strip()}. " if c[3].strip() else ""
                 placed[name] = (kind.strip(), more + t.body(c[4], place).strip(), d["unfolding"], place)
@@ -415,7 +411,7 @@ def convert(crate, path, names, said, module):
                 said.append(f"left: {where}: clause of {name}")
                 continue
             args = c[1].split()
-            t = Turner(names, where, said, shorts)
+            t = Turner(names, where, said)
             t.aliases = {args[0]} if args else {"c"}
             body = c[2]
             # helpers by place become lets
