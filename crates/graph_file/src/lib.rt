@@ -10,6 +10,7 @@ ghost use Rattle.graph.specs.File.{vertex_count, edge_count, edge_in, graph_faul
 ghost use Rattle.graph.specs.Store.{load_fault};
 ghost use Rattle.graph_file.specs.Inner.Reading.{Whole, vertex_field, edge_with, graph_length_fault};
 ghost use Rattle.graph_file.specs.Inner.Reading.{graph_edges_fault};
+ghost use Rattle.refusals.specs.Refusals.{fault_of};
 
 use graph::Graph;
 use packed::field;
@@ -72,27 +73,24 @@ pub fn label(file: &[u8], n: usize, i: usize) -> u32
     forward_entry(file, n, i) / Graph::SPAN
 }
 
-// 1 where the file is shorter than 5 bytes or than its own size, 2 where it is longer or a fill bit is set,
-// else 0.
-fn length_fault(file: &[u8]) -> u32
-    ensures { result ≡ graph_length_fault file.now }
+// Refuses a file that is shorter than 5 bytes or than its own size, and one that is longer or has a fill bit
+// set.
+fn check_length(file: &[u8]) -> Result<(), Refusal>
+    ensures { fault_of result ≡ graph_length_fault file.now }
 {
     if file.len() < 5 {
-        return Refusal::GRAPH_SHORT;
+        return Err(Refusal::GraphShort);
     }
     let n = vertex_count(file);
     let m = edge_count(file);
     let size = 5 + 4 * n + 5 * m;
     if file.len() < size {
-        return Refusal::GRAPH_SHORT;
+        return Err(Refusal::GraphShort);
     }
-    if size < file.len() {
-        return Refusal::GRAPH_LONG;
+    if size < file.len() || packed::fill_set(file, edge_start(n, m)) {
+        return Err(Refusal::GraphLong);
     }
-    if packed::fill_set(file, edge_start(n, m)) {
-        return Refusal::GRAPH_LONG;
-    }
-    0
+    Ok(())
 }
 
 // (source, label, target) as one number, of a source and a forward entry.
@@ -103,61 +101,47 @@ fn edge_key(s: u32, e: u32) -> u64
     s as u64 * Graph::ENTRY_END as u64 + e as u64
 }
 
-// 3 or 4 of the first edge at fault, else 0. `least` is one more than the key of the edge before. The tests
-// stand in the loop, so that each is a branch that is never taken.
-fn edges_fault(file: &[u8], n: usize, m: usize) -> u32
+// Refuses the first edge at fault. `least` is one more than the key of the edge before. The tests stand in the
+// loop, so that each is a branch that is never taken.
+fn check_edges(file: &[u8], n: usize, m: usize) -> Result<(), Refusal>
     requires { Whole file.now n × (m ≡ edge_count file.now) }
-    ensures { result ≡ graph_edges_fault file.now }
+    ensures { fault_of result ≡ graph_edges_fault file.now }
 {
     let mut least = 0;
-    let mut i = 0;
-    while i < m {
+    for i in 0..m {
         let s = source(file, n, i);
         let e = forward_entry(file, n, i);
-        if n <= s as usize {
-            return Refusal::GRAPH_EDGE;
-        }
-        if n <= (e % Graph::SPAN) as usize {
-            return Refusal::GRAPH_EDGE;
-        }
-        if e / Graph::SPAN == 0 {
-            return Refusal::GRAPH_EDGE;
+        if n <= s as usize || n <= (e % Graph::SPAN) as usize || e / Graph::SPAN == 0 {
+            return Err(Refusal::GraphEdge);
         }
         let key = edge_key(s, e);
         if key < least {
-            return Refusal::GRAPH_ORDER;
+            return Err(Refusal::GraphOrder);
         }
         least = key + 1;
-        i += 1;
     }
-    0
+    Ok(())
 }
 
-// The first fault of a graph file, or 0.
-fn graph_fault(file: &[u8]) -> u32
-    ensures { result ≡ graph_fault file.now }
+// Refuses the first fault of a graph file.
+fn check_graph(file: &[u8]) -> Result<(), Refusal>
+    ensures { fault_of result ≡ graph_fault file.now }
 {
-    let fault = length_fault(file);
-    if fault != 0 {
-        return fault;
-    }
-    edges_fault(file, vertex_count(file), edge_count(file))
+    check_length(file)?;
+    check_edges(file, vertex_count(file), edge_count(file))
 }
 
-// Load's refusal for a store of so many words, or 0.
-pub fn load_fault(file: &[u8], room: usize) -> u32
-    ensures { result ≡ load_fault file.now room }
+// Load's refusal of a file or of a store of so many words.
+pub fn check_load(file: &[u8], room: usize) -> Result<(), Refusal>
+    ensures { fault_of result ≡ load_fault file.now room }
 {
-    let fault = graph_fault(file);
-    if fault != 0 {
-        return fault;
-    }
+    check_graph(file)?;
     let g = Graph {
         vertices: vertex_count(file),
         edges: edge_count(file),
     };
     if room < g.words() {
-        return Refusal::STORE_SMALL;
+        return Err(Refusal::StoreSmall);
     }
-    0
+    Ok(())
 }

@@ -26,20 +26,21 @@ pub fn load(file: &[u8], store: &mut [u32]) -> Loaded
     ensures answer { result ≡ load_answer file.now (length store.old) }
     ensures words { store.new ≡ load_store file.now store.old }
 {
-    let refusal = graph_file::load_fault(file, store.len());
-    if refusal != 0 {
-        return Loaded {
-            refusal,
+    match graph_file::check_load(file, store.len()) {
+        Err(refusal) => Loaded {
+            refusal: refusal.number(),
             vertices: 0,
             edges: 0,
-        };
-    }
-    let n = graph_file::vertex_count(file);
-    let m = graph_file::edge_count(file);
-    fill::fill(file, n, m, store);
-    Loaded {
-        refusal: 0,
-        vertices: n,
-        edges: m,
+        },
+        Ok(()) => {
+            let n = graph_file::vertex_count(file);
+            let m = graph_file::edge_count(file);
+            fill::fill(file, n, m, store);
+            Loaded {
+                refusal: 0,
+                vertices: n,
+                edges: m,
+            }
+        }
     }
 }

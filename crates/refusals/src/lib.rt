@@ -1,111 +1,237 @@
-// The refusals by name, with the numbers that documents 01 ('Operations and their refusals') and 02 give
-// them. Code names them; the conditions, and the order in which faults are looked for, are definitions of
-// each operation and have the numbers. No operation gives 23 any more.
+// The refusals: an enum, each with the number by which callers from outside know it. The conditions, and the
+// order in which faults are looked for, are definitions of each operation and have the numbers. No operation
+// gives 23 any more. `specs/Refusals.antt` has the numbers as a definition, and the fault that an outcome
+// stands for; `proofs/Laws.antt` that no refusal has the number 0.
 #![tactic(auto)]
 
-#[derive(Drop)]
-pub struct Refusal {}
+ghost use Rattle.std.specs.Prelude.{◌≡◌};
+ghost use Rattle.refusals.specs.Refusals.{number, fault_of};
 
-impl Refusal {
+#[derive(Clone, Copy, PartialEq, Eq)]
+pub enum Refusal {
     // The graph file is shorter than 5 bytes or than its own size.
-    pub const GRAPH_SHORT: u32 = 1;
+    GraphShort,
 
     // It is longer than its own size, or a fill bit is set.
-    pub const GRAPH_LONG: u32 = 2;
+    GraphLong,
 
     // An edge has a vertex outside 0 to N - 1, or label 0.
-    pub const GRAPH_EDGE: u32 = 3;
+    GraphEdge,
 
     // The edges do not ascend strictly.
-    pub const GRAPH_ORDER: u32 = 4;
+    GraphOrder,
 
     // The store is shorter than the graph's words.
-    pub const STORE_SMALL: u32 = 5;
+    StoreSmall,
 
     // The query file is shorter than 2 bytes or than its own size.
-    pub const QUERY_SHORT: u32 = 6;
+    QueryShort,
 
     // It is longer than its own size, or a fill bit is set.
-    pub const QUERY_LONG: u32 = 7;
+    QueryLong,
 
     // It has not 2 to 8 vertices and 1 to 24 edges.
-    pub const QUERY_LIMITS: u32 = 8;
+    QueryLimits,
 
     // An edge has a vertex not below n, or equal ends.
-    pub const QUERY_EDGE: u32 = 9;
+    QueryEdge,
 
     // The edges do not ascend strictly.
-    pub const QUERY_ORDER: u32 = 10;
+    QueryOrder,
 
     // The query is not connected.
-    pub const QUERY_APART: u32 = 11;
+    QueryApart,
 
     // The plan file's bits run out.
-    pub const PLAN_SHORT: u32 = 12;
+    PlanShort,
 
     // It has a further byte, or a fill bit is set.
-    pub const PLAN_LONG: u32 = 13;
+    PlanLong,
 
     // No operator, kind 3, or an edge or vertex that the query lacks.
-    pub const PLAN_OPERATOR: u32 = 14;
+    PlanOperator,
 
     // Too few results for an operator, or more than one at the end.
-    pub const PLAN_PILE: u32 = 15;
+    PlanPile,
 
     // An extend by a covered vertex, or with no edge to the covered ones.
-    pub const PLAN_EXTEND: u32 = 16;
+    PlanExtend,
 
     // A join of sides that share no vertex, of which one has none of its own, or with an edge that neither has.
-    pub const PLAN_JOIN: u32 = 17;
+    PlanJoin,
 
     // The plan leaves a query vertex uncovered.
-    pub const PLAN_UNCOVERED: u32 = 18;
+    PlanUncovered,
 
     // No accepted graph file loads to this store.
-    pub const STORE_DAMAGED: u32 = 19;
+    StoreDamaged,
 
     // The run needs more scratch.
-    pub const SCRATCH_SMALL: u32 = 20;
+    ScratchSmall,
 
     // The rows do not fit the match list.
-    pub const LIST_SMALL: u32 = 21;
+    ListSmall,
 
     // The records are fewer than the plan's operators.
-    pub const RECORDS_SHORT: u32 = 22;
+    RecordsShort,
 
     // The drawn plan's bytes do not fit.
-    pub const PLAN_BYTES: u32 = 24;
+    PlanBytes,
 
     // A vertex has a first day above its last.
-    pub const QUERY_DAYS: u32 = 25;
+    QueryDays,
 
     // A pair has equal vertices or one not below n, or the pairs do not ascend strictly.
-    pub const QUERY_PAIR: u32 = 26;
+    QueryPair,
 
     // The change file is not of its own size, or one of its changes is no edge of the graph or out of order.
-    pub const CHANGES_FILE: u32 = 27;
+    ChangesFile,
 
     // An edge is added that is there, or one is taken away that is not.
-    pub const CHANGES_EDGE: u32 = 28;
+    ChangesEdge,
 
     // The edited graph has more edges than a graph may have.
-    pub const CHANGES_MANY: u32 = 29;
+    ChangesMany,
 
     // A number that the run would give or record passes 64 bits.
-    pub const RUN_NUMBERS: u32 = 30;
+    RunNumbers,
 
     // The query has more vertices than All orderings takes.
-    pub const ORDERINGS_LARGE: u32 = 31;
+    OrderingsLarge,
 
     // The words are too few for all orderings.
-    pub const ORDERINGS_WORDS: u32 = 32;
+    OrderingsWords,
 
     // The list or its numbers are not those of a match list.
-    pub const SHEET_ROWS: u32 = 33;
+    SheetRows,
 
     // The page is not 1 to the page count.
-    pub const SHEET_PAGE: u32 = 34;
+    SheetPage,
 
     // The bytes are fewer than a page's.
+    SheetBytes,
+}
+
+impl Refusal {
+    // Its number.
+    pub fn number(self) -> u32
+        ensures { result ≡ number self }
+    {
+        match self {
+            Refusal::GraphShort => 1,
+            Refusal::GraphLong => 2,
+            Refusal::GraphEdge => 3,
+            Refusal::GraphOrder => 4,
+            Refusal::StoreSmall => 5,
+            Refusal::QueryShort => 6,
+            Refusal::QueryLong => 7,
+            Refusal::QueryLimits => 8,
+            Refusal::QueryEdge => 9,
+            Refusal::QueryOrder => 10,
+            Refusal::QueryApart => 11,
+            Refusal::PlanShort => 12,
+            Refusal::PlanLong => 13,
+            Refusal::PlanOperator => 14,
+            Refusal::PlanPile => 15,
+            Refusal::PlanExtend => 16,
+            Refusal::PlanJoin => 17,
+            Refusal::PlanUncovered => 18,
+            Refusal::StoreDamaged => 19,
+            Refusal::ScratchSmall => 20,
+            Refusal::ListSmall => 21,
+            Refusal::RecordsShort => 22,
+            Refusal::PlanBytes => 24,
+            Refusal::QueryDays => 25,
+            Refusal::QueryPair => 26,
+            Refusal::ChangesFile => 27,
+            Refusal::ChangesEdge => 28,
+            Refusal::ChangesMany => 29,
+            Refusal::RunNumbers => 30,
+            Refusal::OrderingsLarge => 31,
+            Refusal::OrderingsWords => 32,
+            Refusal::SheetRows => 33,
+            Refusal::SheetPage => 34,
+            Refusal::SheetBytes => 35,
+        }
+    }
+}
+
+// The number of an outcome's refusal, 0 where nothing is refused.
+pub fn fault(outcome: Result<(), Refusal>) -> u32
+    ensures { result ≡ fault_of outcome }
+{
+    match outcome {
+        Ok(()) => 0,
+        Err(refusal) => refusal.number(),
+    }
+}
+
+impl Refusal {
+    pub const GRAPH_SHORT: u32 = 1;
+
+    pub const GRAPH_LONG: u32 = 2;
+
+    pub const GRAPH_EDGE: u32 = 3;
+
+    pub const GRAPH_ORDER: u32 = 4;
+
+    pub const STORE_SMALL: u32 = 5;
+
+    pub const QUERY_SHORT: u32 = 6;
+
+    pub const QUERY_LONG: u32 = 7;
+
+    pub const QUERY_LIMITS: u32 = 8;
+
+    pub const QUERY_EDGE: u32 = 9;
+
+    pub const QUERY_ORDER: u32 = 10;
+
+    pub const QUERY_APART: u32 = 11;
+
+    pub const PLAN_SHORT: u32 = 12;
+
+    pub const PLAN_LONG: u32 = 13;
+
+    pub const PLAN_OPERATOR: u32 = 14;
+
+    pub const PLAN_PILE: u32 = 15;
+
+    pub const PLAN_EXTEND: u32 = 16;
+
+    pub const PLAN_JOIN: u32 = 17;
+
+    pub const PLAN_UNCOVERED: u32 = 18;
+
+    pub const STORE_DAMAGED: u32 = 19;
+
+    pub const SCRATCH_SMALL: u32 = 20;
+
+    pub const LIST_SMALL: u32 = 21;
+
+    pub const RECORDS_SHORT: u32 = 22;
+
+    pub const PLAN_BYTES: u32 = 24;
+
+    pub const QUERY_DAYS: u32 = 25;
+
+    pub const QUERY_PAIR: u32 = 26;
+
+    pub const CHANGES_FILE: u32 = 27;
+
+    pub const CHANGES_EDGE: u32 = 28;
+
+    pub const CHANGES_MANY: u32 = 29;
+
+    pub const RUN_NUMBERS: u32 = 30;
+
+    pub const ORDERINGS_LARGE: u32 = 31;
+
+    pub const ORDERINGS_WORDS: u32 = 32;
+
+    pub const SHEET_ROWS: u32 = 33;
+
+    pub const SHEET_PAGE: u32 = 34;
+
     pub const SHEET_BYTES: u32 = 35;
 }

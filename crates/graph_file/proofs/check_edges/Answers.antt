@@ -1,13 +1,13 @@
--- `graph_file::edges_fault` meets its contract. The loop's invariant: no edge before i is at fault, and `least` is one more than
+-- `graph_file::check_edges` meets its contract. The loop's invariant: no edge before i is at fault, and `least` is one more than
 -- the key of the edge before i. Assumes nothing.
 use mathlib.Core.Path.{◌≡◌, sym}
-use Prim.Native.Nat.{◌-◌}
 use native.Mathlib.Omega.{arith}
 use borrow.Author.Rules.{rules}
 use Rattle.graph.specs.File.{edge_count}
-use Rattle.graph_file.specs.Inner.Reading.{graph_edges_fault}
+use Rattle.graph_file.specs.Inner.Reading.{edge_with, fault_from, graph_edges_fault}
 use Rattle.graph_file.proofs.Refused.{Read, faultless-start, fault-source, fault-target, fault-label, fault-order, fault-none, read-fault, read_more}
-use Rattle.graph_file.proofs.edges_fault.Goals as goal
+use Rattle.graph_file.proofs.check_edges.Goals as goal
+use Rattle.graph_file.proofs.check_edges.Goals.{then-n-s-via-then-n-s, then-n-s-via-else-n-s+then-n-e, then-n-s-via-else-n-s+else-n-e+then-e-eq0}
 
 pub loop-i-init : goal.loop-i-init
 loop-i-init c = (search rules, faultless-start _)
@@ -20,29 +20,13 @@ returns-then-n-s c = let read : let a = c.args in
       source = c.source-s.ensures.0;
       its_entry = c.forward_entry-e.ensures.0;
     } in
-    read-fault (read) (omega arith) (fault-source _ _ _ _ c.if-n-s.true) (λ z. omega arith)
-
-pub returns-then-n-e : goal.returns-then-n-e
-returns-then-n-e c = let read : let a = c.args in
-    Read a.file.now a.n c.loop-i.least c.loop-i.i c.source-s.result c.forward_entry-e.result = record {
-      vertices = c.requires.0.vertices;
-      earlier = c.loop-i.invariant.1;
-      source = c.source-s.ensures.0;
-      its_entry = c.forward_entry-e.ensures.0;
-    } in
-    read-fault (read) (omega arith) (fault-target _ _ _ _ (omega arith) c.if-n-e.true) (λ z. omega arith)
-
-pub returns-then-e-eq0 : goal.returns-then-e-eq0
-returns-then-e-eq0 c = let read : let a = c.args in
-    Read a.file.now a.n c.loop-i.least c.loop-i.i c.source-s.result c.forward_entry-e.result = record {
-      vertices = c.requires.0.vertices;
-      earlier = c.loop-i.invariant.1;
-      source = c.source-s.ensures.0;
-      its_entry = c.forward_entry-e.ensures.0;
-    } in
-    let n = c.args.n in
-    read-fault (read) (omega arith)
-    (fault-label n c.loop-i.least c.source-s.result c.forward_entry-e.result (omega arith) (omega arith) c.if-e-eq0.true) (λ z. omega arith)
+    let at_fault : 3 ≡ fault_from c.args.n c.loop-i.least (edge_with c.source-s.result c.forward_entry-e.result) =
+    elim c.then-n-s.branch [
+      | then-n-s-via-then-n-s w ↦ fault-source _ _ _ _ w.if-n-s.true
+      | then-n-s-via-else-n-s+then-n-e w ↦ fault-target _ _ _ _ w.if-n-s.false w.if-n-e.true
+      | then-n-s-via-else-n-s+else-n-e+then-e-eq0 w ↦ fault-label _ _ _ _ w.if-n-s.false w.if-n-e.false w.if-e-eq0.true
+    ] in
+    read-fault (read) (omega arith) (at_fault) (λ z. omega arith)
 
 pub returns-then-key-least : goal.returns-then-key-least
 returns-then-key-least c = let read : let a = c.args in
@@ -52,7 +36,7 @@ returns-then-key-least c = let read : let a = c.args in
       source = c.source-s.ensures.0;
       its_entry = c.forward_entry-e.ensures.0;
     } in
-    read-fault (read) (omega arith) (fault-order _ _ _ _ (omega arith) (omega arith) c.if-e-eq0.false c.edge_key-key.ensures c.if-key-least.true) (λ z. omega arith)
+    read-fault (read) (omega arith) (fault-order _ _ _ _ c.if-n-s.false c.if-n-e.false c.if-e-eq0.false c.edge_key-key.ensures c.if-key-least.true) (λ z. omega arith)
 
 pub loop-i-preserved : goal.loop-i-preserved
 loop-i-preserved c = let read : let a = c.args in
