@@ -11,31 +11,17 @@ const BLOCK: usize = 4096;
 pub fn clear(part: &mut [u32])
     ensures { part.new ≡ replicate (length part.old) 0 }
 {
-    let mut i = 0;
-    while i < part.len() {
-        part[i] = 0;
-        i += 1;
-    }
+    part.fill(0);
 }
 
-// 1 where word i is not 0, else 0: sums of these take no branch.
-fn is_set(part: &[u32], i: usize) -> u32
-    requires { i < length part.now }
-    ensures { (result ≡ 0 → get_or part.now i 0 ≡ 0) × (result ≤ 1) }
-{
-    (part[i] != 0) as u32
-}
-
-// How many words are not 0; where none is, all are.
+// How many words are not 0. The sum takes no branch.
 fn set_words(part: &[u32]) -> u32
     requires { length part.now < 4294967296 }
     ensures { result ≡ 0 → part.now ≡ replicate (length part.now) 0 }
 {
     let mut sum = 0;
-    let mut i = 0;
-    while i < part.len() {
-        sum += is_set(part, i);
-        i += 1;
+    for word in part {
+        sum += u32::from(*word != 0);
     }
     sum
 }
@@ -69,11 +55,7 @@ pub fn copy(from: &[u32], count: usize, to: &mut [u32])
     requires { (count ≤ length from.now) × (count ≤ length to.old) }
     ensures { to.new ≡ take count from.now ++ drop count to.old }
 {
-    let mut i = 0;
-    while i < count {
-        to[i] = from[i];
-        i += 1;
-    }
+    to[..count].copy_from_slice(&from[..count]);
 }
 
 // The `count` words from `from` on, moved down to the front of their part.
@@ -82,9 +64,5 @@ pub fn move_down(part: &mut [u32], from: usize, count: usize)
     ensures { part.new ≡ take count (drop from part.old)
         ++ drop count part.old }
 {
-    let mut i = 0;
-    while i < count {
-        part[i] = part[from + i];
-        i += 1;
-    }
+    part.copy_within(from..from + count, 0);
 }

@@ -1,5 +1,5 @@
 -- `words::used` meets its contract: the words from `end` on are 0. Assumes nothing.
-use Prim.Native.Nat.{◌-◌, ◌≤◌}
+use Prim.Native.Nat.{◌≤◌}
 use lib.ListN.{length}
 use Rattle.words.proofs.Zeros.{ZerosIn}
 use Rattle.words.proofs.used.Given as goal
