@@ -1,6 +1,6 @@
 -- `store_check::entries_faults` meets its contract: the sum is that of the entries before i. Assumes nothing.
 use mathlib.Core.Path.{refl, sym, ◌∙◌, ap, ap₂}
-use Prim.Native.Nat.{ℕ, ◌+◌, ◌-◌}
+use Prim.Native.Nat.{ℕ, ◌+◌}
 use native.Mathlib.Omega.{arith}
 use lib.Seq.{take_all}
 use Rattle.lists.specs.Lists.{total}

@@ -1,5 +1,4 @@
 -- `store_check::falls` meets its contract: the sum is that of the words up to i. Assumes nothing.
-use Prim.Native.Nat.{◌-◌}
 use native.Mathlib.Omega.{arith}
 use Rattle.store_check.proofs.Order.{falls-next, falls-end}
 use Rattle.store_check.proofs.falls.Goals as goal

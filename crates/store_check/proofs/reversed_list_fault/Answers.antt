@@ -1,6 +1,6 @@
 -- `store_check::reversed_list_fault` meets its contract: the entries before i ascend up to `last`, fit, and have their reverses.
 -- Assumes nothing.
-use Prim.Native.Nat.{◌-◌, ◌%◌, ◌<◌}
+use Prim.Native.Nat.{◌%◌, ◌<◌}
 use native.Mathlib.Omega.{arith}
 use lib.ListN.{get_or}
 use Rattle.store_reverse.specs.Inner.Check.{list_fits, list_reversed}

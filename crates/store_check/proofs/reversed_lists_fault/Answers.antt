@@ -1,5 +1,4 @@
 -- `store_check::reversed_lists_fault` meets its contract: the lists of the vertices below v fit, and have their reverses. Assumes nothing.
-use Prim.Native.Nat.{◌-◌}
 use native.Mathlib.Omega.{arith}
 use mathlib.Core.Path.{◌∙◌}
 use Rattle.store_reverse.proofs.Loops.{lists-both, below-start, below_next, below-stop, below_end}

@@ -1,6 +1,6 @@
 -- `store_check::starts_fall` meets its contract: the sum is that of the lists of the vertices below v. Assumes nothing.
 use mathlib.Core.Path.{◌≡◌, refl, ◌∙◌, ap}
-use Prim.Native.Nat.{ℕ, ◌-◌}
+use Prim.Native.Nat.{ℕ}
 use native.Mathlib.Omega.{arith}
 use Rattle.lists.specs.Lists.{range, count_if}
 use Rattle.store_check.specs.Inner.Order.{start_falls}

@@ -1,5 +1,4 @@
 -- `store_check::words_fault` meets its contract: the words before i are below the end. Assumes nothing.
-use Prim.Native.Nat.{◌-◌}
 use native.Mathlib.Nat.{lt-suc_self, lt_of_le_of_lt}
 use native.Mathlib.Omega.{arith}
 use borrow.Author.Tests.{lt-ltb, le-ltb}

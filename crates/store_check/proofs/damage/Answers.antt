@@ -1,8 +1,8 @@
--- `store_check::store_fault` meets its contract: the counts, the labels and the days, and then the rest. Assumes nothing.
+-- `store_check::damage` meets its contract: the counts, the labels and the days, and then the rest. Assumes nothing.
 use native.Mathlib.Omega.{arith}
 use Rattle.store_check.proofs.Counting.{counts-passed, fit-counts}
 use Rattle.store_check.proofs.Decided.{counts-refuse, vertices-refuse, vertices-pass}
-use Rattle.store_check.proofs.store_fault.Goals as goal
+use Rattle.store_check.proofs.damage.Goals as goal
 
 pub returns-then-counts-ne0 : goal.returns-then-counts-ne0
 returns-then-counts-ne0 c = counts-refuse c.args.store.now c.counts_fault-counts.ensures c.if-counts-ne0.true
