@@ -5,6 +5,7 @@
 #![tactic(auto)]
 
 ghost use Rattle.std.specs.Prelude.{◌≡◌, not, ◌&&◌, ℕ, ◌≤◌, ◌<◌, eqb};
+ghost use Rattle.refusals.specs.Refusals.{fault_of};
 ghost use Rattle.lists.specs.Refusal.{refuse};
 ghost use Rattle.graph.specs.Graph.{max_day};
 ghost use Rattle.query.specs.Query.{edge_at, paired, among, between, reached, connected};
@@ -141,10 +142,8 @@ impl Query {
         ensures { MaskOf result (neighbours (query_in self) v) }
     {
         let mut found = 0;
-        let mut i = 0;
-        while i < self.edges {
-            found = found | other_end(self.edge(i), v);
-            i += 1;
+        for i in 0..self.edges {
+            found |= other_end(self.edge(i), v);
         }
         found
     }
@@ -155,10 +154,8 @@ impl Query {
         ensures { MaskOf result (λ (w : ℕ). paired (query_in self) w v) }
     {
         let mut found = 0;
-        let mut i = 0;
-        while i < self.pairs {
-            found = found | pair_end(self.lows[i], self.highs[i], v);
-            i += 1;
+        for i in 0..self.pairs {
+            found |= pair_end(self.lows[i], self.highs[i], v);
         }
         found
     }
@@ -169,10 +166,8 @@ impl Query {
         ensures { MaskOf result (λ (w : ℕ). paired (query_in self) v w) }
     {
         let mut found = 0;
-        let mut i = 0;
-        while i < self.pairs {
-            found = found | pair_end(self.highs[i], self.lows[i], v);
-            i += 1;
+        for i in 0..self.pairs {
+            found |= pair_end(self.highs[i], self.lows[i], v);
         }
         found
     }
@@ -183,13 +178,9 @@ impl Query {
         ensures { MaskOf result (with_neighbours (query_in self) (in_mask set) self.vertices) }
     {
         let mut next = set;
-        let mut w = 0;
-        while w < self.vertices {
-            if self.adjacent(w) & set == 0 {
-                w += 1;
-            } else {
-                next = next | set::only(w);
-                w += 1;
+        for w in 0..self.vertices {
+            if self.adjacent(w) & set != 0 {
+                next |= set::only(w);
             }
         }
         next
@@ -201,23 +192,21 @@ impl Query {
         ensures { MaskOf result (among (reached (query_in self) self.vertices)) }
     {
         let mut seen = set::only(0);
-        let mut k = 0;
-        while k < self.vertices {
+        for _step in 0..self.vertices {
             seen = self.reach(seen);
-            k += 1;
         }
         seen
     }
 
-    // 11 where the query is not connected, else 0.
-    pub fn connected_fault(self) -> u32
+    // Refuses a query that is not connected.
+    pub fn check_connected(self) -> Result<(), Refusal>
         requires { Held self }
-        ensures { result ≡ refuse 11 (not (connected (query_in self))) }
+        ensures { fault_of result ≡ refuse 11 (not (connected (query_in self))) }
     {
         if set::minus(set::below(self.vertices), self.reached()) != 0 {
-            return Refusal::QUERY_APART;
+            return Err(Refusal::QueryApart);
         }
-        0
+        Ok(())
     }
 }
 
@@ -225,10 +214,7 @@ impl Query {
 fn whole(first: u32, last: u32) -> bool
     ensures { result ≡ (eqb first 0 && eqb last max_day) }
 {
-    if first != 0 {
-        return false;
-    }
-    last == Graph::MAX_DAY
+    first == 0 && last == Graph::MAX_DAY
 }
 
 // The set of the edge's other end, where v is one of its ends; else the empty set.
@@ -237,12 +223,12 @@ fn other_end(e: Edge, v: usize) -> u32
     ensures { MaskOf result (λ (w : ℕ). between v (only w) (as_edge e)) }
 {
     if e.source == v {
-        return set::only(e.target);
+        set::only(e.target)
+    } else if e.target == v {
+        set::only(e.source)
+    } else {
+        0
     }
-    if e.target == v {
-        return set::only(e.source);
-    }
-    0
 }
 
 // The set of one vertex of a pair, where v is the other; else the empty set.
@@ -251,7 +237,8 @@ fn pair_end(one: u32, other: u32, v: usize) -> u32
     ensures { MaskOf result (λ (w : ℕ). eqb one w && eqb other v) }
 {
     if other as usize == v {
-        return set::only(one as usize);
+        set::only(one as usize)
+    } else {
+        0
     }
-    0
 }

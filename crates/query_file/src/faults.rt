@@ -1,5 +1,6 @@
-// The faults of a query file but 11, one function for each part of the file.
+// The tests of a query file but the last, whether its query is connected: one function for each part of the file.
 ghost use Rattle.std.specs.Prelude.{◌≡◌, ◌+◌, ◌*◌, ◌^◌, ◌≤◌, ◌<◌};
+ghost use Rattle.refusals.specs.Refusals.{fault_of};
 ghost use Rattle.packed.specs.Field.{bits_in};
 ghost use Rattle.query.specs.File.{max_vertices, max_edges, vertex_count, edge_count, pair_count, vertex_start};
 ghost use Rattle.query.specs.File.{edge_start, pair_start, key, pair_key};
@@ -12,71 +13,62 @@ use packed::{bytes_for, field, fill_set};
 use query::Query;
 use refusals::Refusal;
 
-// 8 where n or m is outside its limits, else 0.
-fn limits_fault(n: usize, m: usize) -> u32
-    ensures { result ≡ limits_fault n m }
+// Refuses n or m outside its limits.
+fn check_limits(n: usize, m: usize) -> Result<(), Refusal>
+    ensures { fault_of result ≡ limits_fault n m }
 {
-    if n < Query::MIN_VERTICES {
-        return Refusal::QUERY_LIMITS;
+    if n < Query::MIN_VERTICES
+        || Query::MAX_VERTICES < n
+        || m < Query::MIN_EDGES
+        || Query::MAX_EDGES < m
+    {
+        return Err(Refusal::QueryLimits);
     }
-    if Query::MAX_VERTICES < n {
-        return Refusal::QUERY_LIMITS;
-    }
-    if m < Query::MIN_EDGES {
-        return Refusal::QUERY_LIMITS;
-    }
-    if Query::MAX_EDGES < m {
-        return Refusal::QUERY_LIMITS;
-    }
-    0
+    Ok(())
 }
 
-// 6 where the file is shorter than its size in bits, 7 where it is longer or a fill bit is set, else 0.
-fn size_fault(file: &[u8], bits: usize) -> u32
+// Refuses a file that is shorter than its size in bits, and one that is longer or has a fill bit set.
+#[tactic(auto, unfolding(lists::specs::Refusal::first))]
+fn check_size(file: &[u8], bits: usize) -> Result<(), Refusal>
     requires { bits + 7 < 2 ^ 64 }
-    ensures { result ≡ size_fault file.now bits }
+    ensures { fault_of result ≡ size_fault file.now bits }
 {
     let size = bytes_for(bits);
     if file.len() < size {
-        return Refusal::QUERY_SHORT;
+        return Err(Refusal::QueryShort);
     }
-    if size < file.len() {
-        return Refusal::QUERY_LONG;
+    if size < file.len() || fill_set(file, bits) {
+        return Err(Refusal::QueryLong);
     }
-    if fill_set(file, bits) {
-        return Refusal::QUERY_LONG;
-    }
-    0
+    Ok(())
 }
 
-// 6 where the file ends before its pair count does; then the faults of its size.
-fn sizes_fault(file: &[u8], n: usize, m: usize) -> u32
+// Refuses a file that ends before its pair count does; then one that is not of its size.
+fn check_sizes(file: &[u8], n: usize, m: usize) -> Result<(), Refusal>
     requires { (n ≡ vertex_count file.now) × (m ≡ edge_count file.now) × (n ≤ max_vertices)
         × (m ≤ max_edges) }
-    ensures { result ≡ sizes_fault file.now }
+    ensures { fault_of result ≡ sizes_fault file.now }
 {
     if file.len() < bytes_for(pair_start(n, m, 0)) {
-        return Refusal::QUERY_SHORT;
+        return Err(Refusal::QueryShort);
     }
     let k = pair_count(file, n, m);
-    size_fault(file, pair_start(n, m, k))
+    check_size(file, pair_start(n, m, k))
 }
 
-// 25 of the first of the n vertices whose first day is above its last, else 0.
-fn days_fault(file: &[u8], n: usize) -> u32
+// Refuses the first of the n vertices whose first day is above its last.
+fn check_days(file: &[u8], n: usize) -> Result<(), Refusal>
     requires { (n ≤ max_vertices) × (vertex_start n ≤ bits_in file.now) }
-    ensures { result ≡ query_days_fault file.now n }
+    ensures { fault_of result ≡ query_days_fault file.now n }
 {
-    let mut w = 0;
-    while w < n {
+    for w in 0..n {
         let first = field(file, 9 + 48 * w + 16, 16);
         let last = field(file, 9 + 48 * w + 32, 16);
         if last < first {
-            return Refusal::QUERY_DAYS;
+            return Err(Refusal::QueryDays);
         }
-        w += 1;
     }
-    0
+    Ok(())
 }
 
 // (from, to, label) of the edge at a bit position, as one number: the three fields are adjacent.
@@ -87,47 +79,37 @@ fn edge_key(file: &[u8], at: usize) -> u32
     field(file, at, 14)
 }
 
-// 9 where the edge at a bit position has a vertex not below n or equal ends; 10 where its key is below the
-// least that ascends; else 0.
-fn edge_fault(file: &[u8], at: usize, n: usize, least: u32) -> u32
+// Refuses the edge at a bit position that has a vertex not below n or equal ends, and one whose key is below the
+// least that ascends.
+#[tactic(auto, unfolding(lists::specs::Refusal::first))]
+fn check_edge(file: &[u8], at: usize, n: usize, least: u32) -> Result<(), Refusal>
     requires { (at + 14 ≤ bits_in file.now) × (at + 14 < 2 ^ 64) }
-    ensures { result ≡ key_fault n least (edge_from file.now at) }
+    ensures { fault_of result ≡ key_fault n least (edge_from file.now at) }
 {
     let from = field(file, at, 3) as usize;
     let to = field(file, at + 3, 3) as usize;
-    if n <= from {
-        return Refusal::QUERY_EDGE;
-    }
-    if n <= to {
-        return Refusal::QUERY_EDGE;
-    }
-    if from == to {
-        return Refusal::QUERY_EDGE;
+    if n <= from || n <= to || from == to {
+        return Err(Refusal::QueryEdge);
     }
     if edge_key(file, at) < least {
-        return Refusal::QUERY_ORDER;
+        return Err(Refusal::QueryOrder);
     }
-    0
+    Ok(())
 }
 
-// 9 or 10 of the first edge at fault, else 0. `least` is one more than the last edge's key.
-fn edges_fault(file: &[u8], n: usize, m: usize) -> u32
+// Refuses the first edge at fault. `least` is one more than the last edge's key.
+fn check_edges(file: &[u8], n: usize, m: usize) -> Result<(), Refusal>
     requires { (n ≡ vertex_count file.now) × (n ≤ max_vertices) × (m ≤ max_edges)
         × (edge_start file.now m ≤ bits_in file.now) }
-    ensures { result ≡ query_edges_fault file.now m }
+    ensures { fault_of result ≡ query_edges_fault file.now m }
 {
     let mut least = 0;
-    let mut i = 0;
-    while i < m {
+    for i in 0..m {
         let at = edge_start(n, i);
-        let fault = edge_fault(file, at, n, least);
-        if fault != 0 {
-            return fault;
-        }
+        check_edge(file, at, n, least)?;
         least = edge_key(file, at) + 1;
-        i += 1;
     }
-    0
+    Ok(())
 }
 
 // (low, high) of the pair at a bit position, as one number: the two fields are adjacent.
@@ -138,74 +120,48 @@ fn pair_key(file: &[u8], at: usize) -> u32
     field(file, at, 6)
 }
 
-// 26 where the pair at a bit position has a vertex not below n, equal vertices or a key below the least that
-// ascends; else 0.
-fn pair_fault(file: &[u8], at: usize, n: usize, least: u32) -> u32
+// Refuses the pair at a bit position that has a vertex not below n, equal vertices or a key below the least that
+// ascends.
+fn check_pair(file: &[u8], at: usize, n: usize, least: u32) -> Result<(), Refusal>
     requires { (at + 6 ≤ bits_in file.now) × (at + 6 < 2 ^ 64) }
-    ensures { result ≡ pair_key_fault n least (pair_from file.now at) }
+    ensures { fault_of result ≡ pair_key_fault n least (pair_from file.now at) }
 {
     let low = field(file, at, 3) as usize;
     let high = field(file, at + 3, 3) as usize;
-    if n <= low {
-        return Refusal::QUERY_PAIR;
+    if n <= low || n <= high || low == high || pair_key(file, at) < least {
+        return Err(Refusal::QueryPair);
     }
-    if n <= high {
-        return Refusal::QUERY_PAIR;
-    }
-    if low == high {
-        return Refusal::QUERY_PAIR;
-    }
-    if pair_key(file, at) < least {
-        return Refusal::QUERY_PAIR;
-    }
-    0
+    Ok(())
 }
 
-// 26 of the first pair at fault, else 0. `least` is one more than the last pair's key.
-fn pairs_fault(file: &[u8], n: usize, m: usize) -> u32
+// Refuses the first pair at fault. `least` is one more than the last pair's key.
+fn check_pairs(file: &[u8], n: usize, m: usize) -> Result<(), Refusal>
     requires { (n ≡ vertex_count file.now) × (m ≡ edge_count file.now) × (n ≤ max_vertices)
         × (m ≤ max_edges) × (pair_start file.now (pair_count file.now) ≤ bits_in file.now) }
-    ensures { result ≡ query_pairs_fault file.now (pair_count file.now) }
+    ensures { fault_of result ≡ query_pairs_fault file.now (pair_count file.now) }
 {
     let k = pair_count(file, n, m);
     let mut least = 0;
-    let mut i = 0;
-    while i < k {
+    for i in 0..k {
         let at = pair_start(n, m, i);
-        let fault = pair_fault(file, at, n, least);
-        if fault != 0 {
-            return fault;
-        }
+        check_pair(file, at, n, least)?;
         least = pair_key(file, at) + 1;
-        i += 1;
     }
-    0
+    Ok(())
 }
 
-// The first fault of a query file but 11, or 0.
-pub fn file_fault(file: &[u8]) -> u32
-    ensures { result ≡ query_file_fault file.now }
+// Refuses the first fault of a query file but that its query is not connected.
+pub fn check_file(file: &[u8]) -> Result<(), Refusal>
+    ensures { fault_of result ≡ query_file_fault file.now }
 {
     if file.len() < 2 {
-        return Refusal::QUERY_SHORT;
+        return Err(Refusal::QueryShort);
     }
     let n = vertex_count(file);
     let m = edge_count(file);
-    let limits = limits_fault(n, m);
-    if limits != 0 {
-        return limits;
-    }
-    let size = sizes_fault(file, n, m);
-    if size != 0 {
-        return size;
-    }
-    let days = days_fault(file, n);
-    if days != 0 {
-        return days;
-    }
-    let edges = edges_fault(file, n, m);
-    if edges != 0 {
-        return edges;
-    }
-    pairs_fault(file, n, m)
+    check_limits(n, m)?;
+    check_sizes(file, n, m)?;
+    check_days(file, n)?;
+    check_edges(file, n, m)?;
+    check_pairs(file, n, m)
 }

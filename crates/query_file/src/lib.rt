@@ -5,6 +5,7 @@
 #![tactic(auto)]
 
 ghost use Rattle.std.specs.Prelude.{◌≡◌, map, ◌+◌, ◌*◌, ◌^◌, ◌≤◌, ◌<◌, length};
+ghost use Rattle.refusals.specs.Refusals.{fault_of};
 ghost use Rattle.lists.specs.Lists.{range};
 ghost use Rattle.packed.specs.Field.{bits_in};
 ghost use Rattle.query.specs.File.{max_vertices, max_edges, max_pairs, vertex_count, edge_count, pair_count};
@@ -14,6 +15,7 @@ ghost use Rattle.query.specs.Answer.{padded, struct_of, read_answer};
 
 use packed::field;
 use query::{Query, ReadQuery};
+use refusals::Refusal;
 
 mod faults;
 
@@ -62,10 +64,8 @@ fn vertex_fields(file: &[u8], n: usize, offset: usize) -> [u32; Query::MAX_VERTI
     ensures { result ≡ padded max_vertices (map (vertex_field file.now offset) (range n)) }
 {
     let mut a = [0u32; Query::MAX_VERTICES];
-    let mut w = 0;
-    while w < n {
+    for w in 0..n {
         a[w] = field(file, 9 + 48 * w + offset, 16);
-        w += 1;
     }
     a
 }
@@ -84,10 +84,8 @@ fn edge_fields(
     ensures { result ≡ padded max_edges (map (edge_field file.now at offset width) (range m)) }
 {
     let mut a = [0u32; Query::MAX_EDGES];
-    let mut i = 0;
-    while i < m {
+    for i in 0..m {
         a[i] = field(file, at + 14 * i + offset, width);
-        i += 1;
     }
     a
 }
@@ -99,10 +97,8 @@ fn pair_fields(file: &[u8], at: usize, k: usize, offset: usize) -> [u32; Query::
     ensures { result ≡ padded max_pairs (map (pair_field file.now at offset) (range k)) }
 {
     let mut a = [0u32; Query::MAX_PAIRS];
-    let mut i = 0;
-    while i < k {
+    for i in 0..k {
         a[i] = field(file, at + 6 * i + offset, 3);
-        i += 1;
     }
     a
 }
@@ -140,30 +136,33 @@ pub fn query_of(file: &[u8]) -> Query
     }
 }
 
-// Read query's refusal: 6, 8, 6, 7, 25, then by edge 9, 10, then by pair 26, then 11; or 0.
+// Read query's refusal: 6, 8, 6, 7, 25, then by edge 9, 10, then by pair 26, then 11.
+pub fn check_query(file: &[u8]) -> Result<(), Refusal>
+    ensures { fault_of result ≡ query_fault file.now }
+{
+    faults::check_file(file)?;
+    query_of(file).check_connected()
+}
+
+// The number of that refusal, or 0.
 pub fn query_fault(file: &[u8]) -> u32
     ensures { result ≡ query_fault file.now }
 {
-    let fault = faults::file_fault(file);
-    if fault != 0 {
-        return fault;
-    }
-    query_of(file).connected_fault()
+    refusals::fault(check_query(file))
 }
 
 // Read query.
 pub fn read_query(file: &[u8]) -> ReadQuery
     ensures { result ≡ read_answer file.now }
 {
-    let refusal = query_fault(file);
-    if refusal != 0 {
-        return ReadQuery {
-            refusal,
+    match check_query(file) {
+        Err(refusal) => ReadQuery {
+            refusal: refusal.number(),
             query: Query::none(),
-        };
-    }
-    ReadQuery {
-        refusal: 0,
-        query: query_of(file),
+        },
+        Ok(()) => ReadQuery {
+            refusal: 0,
+            query: query_of(file),
+        },
     }
 }

@@ -12,5 +12,5 @@ pub returns-then-e-v-2 : goal.returns-then-e-v-2
 returns-then-e-v-2 c w = c.only-then-e-v-2.ensures w
     ∙ sym (from-target (as_edge c.args.e) c.args.v w (search) (search))
 
-pub returns : goal.returns
-returns c w = in-none w ∙ sym (from-neither (as_edge c.args.e) c.args.v w (search) (search))
+pub returns-else-e-v-2 : goal.returns-else-e-v-2
+returns-else-e-v-2 c w = in-none w ∙ sym (from-neither (as_edge c.args.e) c.args.v w (search) (search))

@@ -13,7 +13,7 @@ returns-then-other-v c w = let a = c.args in
     let met : eqb a.other a.v ≡ true = eq-eqb a.other a.v (search rules) in
     c.only.ensures w ∙ eqb-sym w a.one ∙ sym (ap (λ (b : Bool). eqb a.one w && b) met ∙ and-true (eqb a.one w))
 
-pub returns : goal.returns
-returns c w = let a = c.args in
+pub returns-else-other-v : goal.returns-else-other-v
+returns-else-other-v c w = let a = c.args in
     let missed : eqb a.other a.v ≡ false = ne_eqb a.other a.v (search rules) in
     in-none w ∙ sym (ap (λ (b : Bool). eqb a.one w && b) missed ∙ and-false (eqb a.one w))

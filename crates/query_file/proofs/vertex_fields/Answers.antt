@@ -1,6 +1,5 @@
 -- `query_file::vertex_fields` meets its contract: after w vertices, the array has the field of these. Assumes nothing.
 use mathlib.Core.Path.{◌≡◌, refl}
-use Prim.Native.Nat.{◌-◌}
 use native.Mathlib.Omega.{arith}
 use Rattle.lists.specs.Lists.{range}
 use Rattle.query.specs.File.{max_vertices}

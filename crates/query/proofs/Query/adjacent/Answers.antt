@@ -1,6 +1,6 @@
 -- `query::Query::adjacent` meets its contract: after i edges, the set of v's neighbours by these. Assumes nothing.
 use mathlib.Core.Path.{◌≡◌, ◌∙◌, ap}
-use Prim.Native.Nat.{ℕ, ◌<◌, ◌-◌}
+use Prim.Native.Nat.{ℕ, ◌<◌}
 use native.Mathlib.Omega.{arith}
 use borrow.Author.Rules.{rules}
 use Rattle.graph.specs.Graph.{Edge}

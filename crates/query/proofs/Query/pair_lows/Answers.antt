@@ -1,6 +1,6 @@
 -- `query::Query::pair_lows` meets its contract: after i pairs, the low vertices that these have with v. Assumes nothing.
 use mathlib.Core.Path.{◌≡◌, ◌∙◌, ap}
-use Prim.Native.Nat.{ℕ, ◌-◌}
+use Prim.Native.Nat.{ℕ}
 use native.Mathlib.Omega.{arith}
 use borrow.Author.Rules.{rules}
 use Rattle.query.proofs.Pairs.{by_pairs, pairs-none, pairs-more, low_of, all-lows}

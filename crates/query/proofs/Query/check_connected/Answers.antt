@@ -1,4 +1,4 @@
--- `query::Query::connected_fault` meets its contract: none of its vertices is missing in those reached. Assumes nothing.
+-- `query::Query::check_connected` meets its contract: none of its vertices is missing in those reached. Assumes nothing.
 use mathlib.Core.Path.{◌≡◌, ◌∙◌, sym, ap}
 use mathlib.Core.Bool.{Bool, not}
 use lib.Dec.{eqb}
@@ -8,7 +8,7 @@ use Rattle.lists.specs.Refusal.{refuse}
 use Rattle.query.specs.Query.{connected}
 use Rattle.query.specs.Inner.Struct.{query_in}
 use Rattle.query.proofs.Steps.{connected-mask}
-use Rattle.query.proofs.Query.connected_fault.Goals as goal
+use Rattle.query.proofs.Query.check_connected.Goals as goal
 
 pub returns-then-minus-ne0 : goal.returns-then-minus-ne0
 unfolding query_in

@@ -1,13 +1,12 @@
--- `query_file::faults::days_fault` meets its contract: no vertex before w has a fault. Assumes nothing.
+-- `query_file::faults::check_days` meets its contract: no vertex before w has a fault. Assumes nothing.
 use mathlib.Core.Path.{◌≡◌, refl, sym}
-use Prim.Native.Nat.{◌-◌}
 use native.Mathlib.Omega.{arith}
 use borrow.Author.Rules.{rules}
 use Rattle.lists.specs.Lists.{range}
 use Rattle.lists.specs.Refusal.{first}
 use Rattle.query_file.specs.Inner.Parts.{query_days_fault}
 use Rattle.query_file.proofs.FileLaws.{days-next, days-stop}
-use Rattle.query_file.proofs.faults.days_fault.Goals as goal
+use Rattle.query_file.proofs.faults.check_days.Goals as goal
 
 pub loop-w-init : goal.loop-w-init
 unfolding query_days_fault range first
