@@ -237,7 +237,7 @@ sheets-hold-every-row list n rows bytes good room =
         × (page_text list n rows page ++ drop page_size bytes ≡ page_bytes list n rows page bytes)
     left page low high =
         accepted-left list n rows page bytes (page_count rows) (page_text list n rows page ++ drop page_size bytes)
-        (fault-none list n rows page bytes good low high room) refl refl
+        (fault-none list n rows page (length bytes) good low high room) refl refl
 
     is : (page : ℕ) → 1 ≤ page → page ≤ page_count rows
         → page_bytes list n rows page bytes ≡ flat_map line (page_lines (rows_on (rows_of n rows list) page) page (page_count rows)) ++ drop 4860 bytes

@@ -11,10 +11,8 @@ pub fn any_large(words: &[u32]) -> bool
     ensures { result ≡ any (λ (w : ℕ). ltb max_word w) words.now }
 {
     let mut seen = 0u32;
-    let mut i = 0;
-    while i < words.len() {
-        seen = seen | words[i];
-        i += 1;
+    for &word in words {
+        seen |= word;
     }
     PageAnswer::MAX_WORD < seen
 }

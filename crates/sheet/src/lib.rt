@@ -7,9 +7,10 @@ mod large;
 mod lines;
 mod number;
 
-ghost use Rattle.std.specs.Prelude.{◌≡◌, ◌++◌, ◌-◌, ◌≤◌, min, length, drop};
+ghost use Rattle.std.specs.Prelude.{◌≡◌, ◌++◌, ◌≤◌, length, drop};
 ghost use Rattle.lists.specs.Refusal.{refuse};
-ghost use Rattle.sheet.specs.Page.{page_rows, page_size, max_rows, page_count, bad_rows};
+ghost use Rattle.refusals.specs.Refusals.{number, fault_of};
+ghost use Rattle.sheet.specs.Page.{page_size, max_rows, page_count, bad_rows, page_fault};
 ghost use Rattle.sheet.specs.Page.{page_text, page_answer, page_bytes};
 ghost use Rattle.sheet.specs.Claims.{SheetsHoldEveryRow};
 ghost use Rattle.sheet.specs.Inner.Lines.{Accepted};
@@ -45,37 +46,29 @@ impl PageAnswer {
 
     pub const BYTES: usize = 4860;
 
-    fn refused(refusal: u32) -> Self
-        ensures { result ≡ record { refusal = refusal; pages = 0 } }
+    fn refused(refusal: Refusal) -> Self
+        ensures { result ≡ record { refusal = number refusal; pages = 0 } }
     {
-        PageAnswer { refusal, pages: 0 }
+        PageAnswer {
+            refusal: refusal.number(),
+            pages: 0,
+        }
     }
 }
 
-// 33, or 0: n and the rows are tested before their product is taken, and then every word of the rows.
-fn rows_fault(list: &[u32], n: usize, rows: usize) -> u32
-    ensures { result ≡ refuse 33 (bad_rows list.now n rows) }
+// Refuses what is not a match list: n and the rows are tested before their product is taken, and then every word
+// of the rows.
+fn check_rows(list: &[u32], n: usize, rows: usize) -> Result<(), Refusal>
+    ensures { fault_of result ≡ refuse 33 (bad_rows list.now n rows) }
 {
-    if n < Query::MIN_VERTICES {
-        return Refusal::SHEET_ROWS;
-    }
-    if Query::MAX_VERTICES < n {
-        return Refusal::SHEET_ROWS;
-    }
-    if PageAnswer::MAX_ROWS < rows {
-        return Refusal::SHEET_ROWS;
+    if n < Query::MIN_VERTICES || Query::MAX_VERTICES < n || PageAnswer::MAX_ROWS < rows {
+        return Err(Refusal::SheetRows);
     }
     let count = n * rows;
-    if list.len() < count {
-        return Refusal::SHEET_ROWS;
+    if list.len() < count || RunAnswer::MAX_WORDS < count || large::any_large(&list[..count]) {
+        return Err(Refusal::SheetRows);
     }
-    if RunAnswer::MAX_WORDS < count {
-        return Refusal::SHEET_ROWS;
-    }
-    if large::any_large(&list[..count]) {
-        return Refusal::SHEET_ROWS;
-    }
-    0
+    Ok(())
 }
 
 // The page count.
@@ -83,21 +76,21 @@ fn page_count(rows: usize) -> usize
     requires { rows ≤ max_rows }
     ensures { result ≡ page_count rows }
 {
-    if rows == 0 {
-        return 1;
-    }
-    (rows + (PageAnswer::ROWS - 1)) / PageAnswer::ROWS
+    rows.div_ceil(PageAnswer::ROWS).max(1)
 }
 
-// How many of the rows from `first` on stand on one page.
-fn rows_from(first: usize, rows: usize) -> usize
-    requires { first ≤ rows }
-    ensures { result ≡ min page_rows (rows - first) }
+// Refuses rows that are not a match list's, then a page that is not one of theirs, then too few bytes for one.
+fn check_page(list: &[u32], n: usize, rows: usize, page: usize, room: usize) -> Result<(), Refusal>
+    ensures { fault_of result ≡ page_fault list.now n rows page room }
 {
-    if PageAnswer::ROWS < rows - first {
-        return PageAnswer::ROWS;
+    check_rows(list, n, rows)?;
+    if page < 1 || page_count(rows) < page {
+        return Err(Refusal::SheetPage);
     }
-    rows - first
+    if room < PageAnswer::BYTES {
+        return Err(Refusal::SheetBytes);
+    }
+    Ok(())
 }
 
 // Writes a page that is not refused: a blank one, then its heading and its rows.
@@ -109,7 +102,7 @@ fn put_page(list: &[u32], n: usize, rows: usize, page: usize, pages: usize, byte
     lines::put_blank_lines(bytes);
     lines::put_heading(page, pages, bytes);
     let first = PageAnswer::ROWS * (page - 1);
-    let count = rows_from(first, rows);
+    let count = PageAnswer::ROWS.min(rows - first);
     let from = n * first;
     lines::put_rows(
         &list[from..from + n * count],
@@ -127,20 +120,12 @@ pub fn page(list: &[u32], n: usize, rows: usize, page: usize, bytes: &mut [u8]) 
         ≡ page_bytes list.now n rows page bytes.old }
     ensures sheets { SheetsHoldEveryRow list.now n rows bytes.old }
 {
-    let fault = rows_fault(list, n, rows);
-    if fault != 0 {
-        return PageAnswer::refused(fault);
+    match check_page(list, n, rows, page, bytes.len()) {
+        Err(refusal) => PageAnswer::refused(refusal),
+        Ok(()) => {
+            let pages = page_count(rows);
+            put_page(list, n, rows, page, pages, bytes);
+            PageAnswer { refusal: 0, pages }
+        }
     }
-    let pages = page_count(rows);
-    if page < 1 {
-        return PageAnswer::refused(Refusal::SHEET_PAGE);
-    }
-    if pages < page {
-        return PageAnswer::refused(Refusal::SHEET_PAGE);
-    }
-    if bytes.len() < PageAnswer::BYTES {
-        return PageAnswer::refused(Refusal::SHEET_BYTES);
-    }
-    put_page(list, n, rows, page, pages, bytes);
-    PageAnswer { refusal: 0, pages }
 }

@@ -16,11 +16,9 @@ pub fn put_numbers(numbers: &[u32], text: &mut [u8])
     ensures { text.new ≡ flat_map field numbers.now
         ++ blanks (length text.old - number_columns * length numbers.now) }
 {
-    let mut i = 0;
-    while i < numbers.len() {
+    for (i, &number) in numbers.iter().enumerate() {
         let at = PageAnswer::NUMBER_COLUMNS * i;
-        put_number(numbers[i], &mut text[at..at + PageAnswer::NUMBER_COLUMNS]);
-        i += 1;
+        put_number(number, &mut text[at..at + PageAnswer::NUMBER_COLUMNS]);
     }
 }
 
@@ -29,11 +27,7 @@ fn put_blank_line(text: &mut [u8])
     requires { length text.old ≡ columns + 1 }
     ensures { text.new ≡ line [] }
 {
-    let mut i = 0;
-    while i < PageAnswer::COLUMNS {
-        text[i] = b' ';
-        i += 1;
-    }
+    text[..PageAnswer::COLUMNS].fill(b' ');
     text[PageAnswer::COLUMNS] = b'\n';
 }
 
@@ -42,11 +36,9 @@ pub fn put_blank_lines(bytes: &mut [u8])
     requires { page_size ≤ length bytes.old }
     ensures { bytes.new ≡ blank_lines (1 + page_rows) ++ drop page_size bytes.old }
 {
-    let mut i = 0;
-    while i < 1 + PageAnswer::ROWS {
+    for i in 0..1 + PageAnswer::ROWS {
         let at = PageAnswer::LINE_BYTES * i;
         put_blank_line(&mut bytes[at..at + PageAnswer::LINE_BYTES]);
-        i += 1;
     }
 }
 
@@ -68,14 +60,12 @@ pub fn put_rows(words: &[u32], n: usize, rows: usize, lines: &mut [u8])
     ensures { lines.new
         ≡ flat_map line (rows_of n rows words.now ++ replicate (page_rows - rows) []) }
 {
-    let mut i = 0;
-    while i < rows {
+    for i in 0..rows {
         let at = PageAnswer::LINE_BYTES * i;
         let from = n * i;
         put_numbers(
             &words[from..from + n],
             &mut lines[at..at + PageAnswer::COLUMNS],
         );
-        i += 1;
     }
 }

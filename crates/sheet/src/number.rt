@@ -9,10 +9,8 @@ pub fn put_number(x: u32, columns: &mut [u8])
         × (columns.old ≡ blanks (length columns.old)) }
     ensures { columns.new ≡ aligned (length columns.old) (decimal x) }
 {
-    let mut i = columns.len();
     let mut rest = x;
-    while 0 < i {
-        i -= 1;
+    for i in (0..columns.len()).rev() {
         columns[i] = (48 + rest % 10) as u8;
         rest = rest / 10;
         if rest == 0 {

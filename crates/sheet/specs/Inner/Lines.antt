@@ -1,6 +1,6 @@
 -- What the functions that write a page ask of their words, and the blank text that they write over. Assumes
 -- nothing.
-use Rattle.std.specs.Prelude.{◌≡◌, true, false, ℕ, ◌-◌, ◌^◌, ◌≤◌, ltb, replicate}
+use Rattle.std.specs.Prelude.{◌≡◌, true, false, ℕ, ◌^◌, ◌≤◌, ltb, replicate}
 use mathlib.Core.List.{List, [], flat_map}
 use Rattle.lists.specs.Lists.{all}
 use Rattle.sheet.specs.Decimal.{blank}

@@ -1,39 +1,27 @@
--- `sheet::lines::put_blank_line` meets its contract: the first i bytes are those of a blank line. Assumes nothing.
--- The line feed makes the line whole.
-use mathlib.Core.Path.{◌≡◌, sym, ◌∙◌, ap₂, subst}
-use mathlib.Core.List.{List, [], ◌++◌, append-nil}
-use Prim.Native.Nat.{ℕ, ◌+◌, ◌-◌}
+-- `sheet::lines::put_blank_line` meets its contract: blanks, and the line feed makes the line whole. Assumes nothing.
+use mathlib.Core.Path.{◌≡◌, sym, ◌∙◌, ap}
+use mathlib.Core.List.{List, [], ◌∷◌, ◌++◌}
+use Prim.Native.Nat.{ℕ, suc}
 use native.Mathlib.Omega.{arith}
-use lib.ListN.{length, set, drop_of_length-le}
-use lib.Seq.{take_all}
-use Rattle.words.proofs.Copying.{Copied, start, next}
-use Rattle.sheet.specs.Page.{columns, line}
-use Rattle.sheet.proofs.Text.{length-blank-line, blank-at, feed-at}
+use lib.ListN.{length, get_or, take, drop, set, replicate, length-replicate, drop_of_length-le}
+use lib.Seq.{length-take-le, set_at}
+use Rattle.std.proofs.Common.{drop-cons}
+use Rattle.sheet.specs.Decimal.{line_feed}
+use Rattle.sheet.specs.Inner.Lines.{blanks}
+use Rattle.sheet.proofs.Text.{blank-line}
 use Rattle.sheet.proofs.lines.put_blank_line.Goals as goal
 
-whole : (before after : List ℕ) (i : ℕ) → length before ≡ columns + 1 → i ≡ columns → Copied (line []) before after i → set after columns 10 ≡ line []
-whole before after i h e c =
-    let all : Copied (line []) before (set after columns 10) (columns + 1) =
-    next _ before after columns 10 (rw length-blank-line (omega arith)) (omega arith) (sym feed-at) (subst (λ (k : ℕ). Copied (line []) before after k) e c) in
-    all.words
-    ∙ ap₂ (λ (a b : List ℕ). a ++ b) (take_all (columns + 1) (line []) (omega (arith, length-blank-line))) (drop_of_length-le before {i = columns + 1} (omega arith))
-    ∙ append-nil (line [])
+fed : (text : List ℕ) (n : ℕ) → length text ≡ suc n → set (blanks n ++ drop n text) n line_feed ≡ blanks n ++ (line_feed ∷ [])
+fed text n h =
+    ap (λ (l : List ℕ). set (blanks n ++ l) n line_feed)
+    (drop-cons text n 0 (omega arith) ∙ ap (λ (l : List ℕ). get_or text n 0 ∷ l) (drop_of_length-le text {i = suc n} (omega arith)))
+    ∙ set_at (blanks n) (get_or text n 0) [] line_feed n (length-replicate n 32)
 
-pub loop-i-init : goal.loop-i-init
-loop-i-init c = (omega arith, start _ _)
-
-pub bounds-text-i : goal.bounds-text-i
-bounds-text-i c = omega (arith, c.loop-i.invariant.1.kept)
-
-pub loop-i-preserved : goal.loop-i-preserved
-loop-i-preserved c = let l = c.loop-i in (
-  omega arith,
-  next _ c.args.text.now _ l.i _ (rw length-blank-line (omega arith)) (omega arith) (sym (blank-at l.i (omega arith)))
-      l.invariant.1,
-)
-
-pub bounds-text-80 : goal.bounds-text-80
-bounds-text-80 c = omega (arith, c.loop-i.invariant.1.kept)
+pub slice_bounds-fill-end-2 : goal.slice_bounds-fill-end-2
+slice_bounds-fill-end-2 c = sym (length-take-le 80 c.args.text.now (omega arith))
 
 pub returns : goal.returns
-returns c = let l = c.loop-i in whole c.args.text.now l.text l.i c.requires (omega arith) l.invariant.1
+returns c = let t = c.args.text.now in
+    let filled : c.fill.new.self ≡ replicate (length (take 80 t)) 32 = c.fill.ensures.after (λ y e. e) in
+    ap (λ (l : List ℕ). set (l ++ drop 80 t) 80 10) (filled ∙ ap (λ (k : ℕ). replicate k 32) (length-take-le 80 t (omega arith)))
+    ∙ fed t 80 c.requires ∙ sym blank-line
