@@ -1,6 +1,7 @@
 // The plan file: the operator count (5 bits), then each operator's kind (2) and operand (5, 3 or 0 by its
 // kind).
 ghost use Rattle.std.specs.Prelude.{◌≡◌, ◌+◌, ◌^◌, ◌≤◌, ◌<◌, length};
+ghost use Rattle.refusals.specs.Refusals.{fault_of};
 ghost use Rattle.lists.specs.Refusal.{first};
 ghost use Rattle.packed.specs.Field.{bits_in, bytes_for};
 ghost use Rattle.plan.specs.File.{operator_count, kind_at, operand_bits, operand_at, operator_fault};
@@ -23,13 +24,11 @@ pub fn operator_count(file: &[u8]) -> usize
 fn operand_width(kind: u32) -> usize
     ensures { result ≡ operand_bits kind }
 {
-    if kind == Plan::SCAN {
-        return 5;
+    match kind {
+        Plan::SCAN => 5,
+        Plan::EXTEND => 3,
+        _ => 0,
     }
-    if kind == Plan::EXTEND {
-        return 3;
-    }
-    0
 }
 
 // The bit position past the operator at a position.
@@ -49,85 +48,71 @@ pub fn operand(file: &[u8], at: usize) -> u32
     field(file, at + 2, operand_width(field(file, at, 2)))
 }
 
-// 14 where a scan names an edge not below m or an extend a vertex not below n, else 0.
-fn operand_fault(kind: u32, operand: usize, n: usize, m: usize) -> u32
-    ensures { result ≡ operand_fault kind operand n m }
+// Refuses a scan that names an edge not below m and an extend that names a vertex not below n.
+#[tactic(auto, unfolding(lists::specs::Refusal::first))]
+fn check_operand(kind: u32, operand: usize, n: usize, m: usize) -> Result<(), Refusal>
+    ensures { fault_of result ≡ operand_fault kind operand n m }
 {
-    if kind == Plan::SCAN {
-        if m <= operand {
-            return Refusal::PLAN_OPERATOR;
-        }
-        return 0;
+    if kind == Plan::SCAN && m <= operand || kind == Plan::EXTEND && n <= operand {
+        return Err(Refusal::PlanOperator);
     }
-    if kind == Plan::EXTEND {
-        if n <= operand {
-            return Refusal::PLAN_OPERATOR;
-        }
-    }
-    0
+    Ok(())
 }
 
-// Field by field, 12 where the bits run out, 14 for kind 3 or an edge or vertex the query lacks, else 0: of
-// the operator at a position.
-fn operator_fault(file: &[u8], at: usize, n: usize, m: usize) -> u32
+// Field by field, refuses an operator at a position whose bits run out, one of kind 3, and one that names an edge
+// or vertex that the query lacks.
+fn check_operator(file: &[u8], at: usize, n: usize, m: usize) -> Result<(), Refusal>
     requires { at < 2 ^ 32 }
-    ensures { result ≡ operator_fault (of_size n m) file.now at }
+    ensures { fault_of result ≡ operator_fault (of_size n m) file.now at }
 {
     if file.len() < bytes_for(at + 2) {
-        return Refusal::PLAN_SHORT;
+        return Err(Refusal::PlanShort);
     }
     let kind = field(file, at, 2);
     if kind == Plan::NO_KIND {
-        return Refusal::PLAN_OPERATOR;
+        return Err(Refusal::PlanOperator);
     }
     if file.len() < bytes_for(next_place(file, at)) {
-        return Refusal::PLAN_SHORT;
+        return Err(Refusal::PlanShort);
     }
-    operand_fault(kind, operand(file, at) as usize, n, m)
+    check_operand(kind, operand(file, at) as usize, n, m)
 }
 
-// 13 where a byte follows those of the plan's bits or a fill bit is set, else 0.
-fn end_fault(file: &[u8], end: usize) -> u32
+// Refuses a file of which a byte follows those of the plan's bits, or a fill bit is set.
+#[tactic(auto, unfolding(lists::specs::Refusal::first))]
+fn check_end(file: &[u8], end: usize) -> Result<(), Refusal>
     requires { (end < 2 ^ 32) × (bytes_for end ≤ length file.now) }
-    ensures { result ≡ first (end_faults file.now end) }
+    ensures { fault_of result ≡ first (end_faults file.now end) }
 {
-    if bytes_for(end) < file.len() {
-        return Refusal::PLAN_LONG;
+    if bytes_for(end) < file.len() || fill_set(file, end) {
+        return Err(Refusal::PlanLong);
     }
-    if fill_set(file, end) {
-        return Refusal::PLAN_LONG;
-    }
-    0
+    Ok(())
 }
 
-// The fault of the first operator at fault, then of the file's end. `at` is the place of operator i.
-fn operators_fault(file: &[u8], count: usize, n: usize, m: usize) -> u32
+// Refuses the first operator at fault, then the file's end. `at` is the place of operator i.
+fn check_operators(file: &[u8], count: usize, n: usize, m: usize) -> Result<(), Refusal>
     requires { (count ≤ max_operators) × (0 < length file.now) }
-    ensures { result ≡ first (operators_faults (of_size n m) file.now count) }
+    ensures { fault_of result ≡ first (operators_faults (of_size n m) file.now count) }
 {
     let mut at = 5;
-    let mut i = 0;
-    while i < count {
-        let fault = operator_fault(file, at, n, m);
-        if fault != 0 {
-            return fault;
-        }
+    for _i in 0..count {
+        check_operator(file, at, n, m)?;
         at = next_place(file, at);
-        i += 1;
     }
-    end_fault(file, at)
+    check_end(file, at)
 }
 
-// The faults 12, 13, 14 of a plan file, for a query of n vertices and m edges; or 0.
-pub fn file_fault(file: &[u8], n: usize, m: usize) -> u32
-    ensures { result ≡ plan_file_fault (of_size n m) file.now }
+// Refuses a plan file with one of the faults 12, 13, 14, for a query of n vertices and m edges.
+pub fn check_file(file: &[u8], n: usize, m: usize) -> Result<(), Refusal>
+    ensures { fault_of result ≡ plan_file_fault (of_size n m) file.now }
 {
     if file.len() < 1 {
-        return Refusal::PLAN_SHORT;
+        return Err(Refusal::PlanShort);
     }
     let count = operator_count(file);
     if count == 0 {
-        return Refusal::PLAN_OPERATOR;
+        return Err(Refusal::PlanOperator);
     }
-    operators_fault(file, count, n, m)
+    check_operators(file, count, n, m)
 }

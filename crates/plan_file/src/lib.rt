@@ -4,11 +4,13 @@
 #![tactic(auto)]
 
 ghost use Rattle.std.specs.Prelude.{◌≡◌, ◌≤◌};
+ghost use Rattle.refusals.specs.Refusals.{fault_of};
 ghost use Rattle.packed.specs.Field.{bits_in};
 ghost use Rattle.plan.specs.File.{operator_count, place, check_fault, check_answer};
 ghost use Rattle.plan.specs.Inner.Struct.{plan_struct};
 
 use plan::{CheckedPlan, Plan};
+use refusals::Refusal;
 
 mod file;
 mod rules;
@@ -22,45 +24,43 @@ pub fn plan_of(file: &[u8]) -> Plan
     let mut kinds = [0u32; Plan::MAX_OPERATORS];
     let mut operands = [0u32; Plan::MAX_OPERATORS];
     let mut at = 5;
-    let mut i = 0;
-    while i < count {
+    for i in 0..count {
         kinds[i] = packed::field(file, at, 2);
         operands[i] = file::operand(file, at);
         at = file::next_place(file, at);
-        i += 1;
     }
     Plan::new(count, kinds, operands)
 }
 
-// Check plan's refusal: the query's, then 12, 14, 13, then by the rules 15, 16, 17, 15, 18; or 0.
+// Check plan's refusal: the query's, then 12, 14, 13, then by the rules 15, 16, 17, 15, 18.
+pub fn check_plan_file(query: &[u8], plan: &[u8]) -> Result<(), Refusal>
+    ensures { fault_of result ≡ check_fault query.now plan.now }
+{
+    query_file::check_query(query)?;
+    let q = query_file::query_of(query);
+    file::check_file(plan, q.vertices, q.edges)?;
+    rules::check_rules(q, plan_of(plan))
+}
+
+// The number of that refusal, or 0.
 pub fn check_fault(query: &[u8], plan: &[u8]) -> u32
     ensures { result ≡ check_fault query.now plan.now }
 {
-    let fault = query_file::query_fault(query);
-    if fault != 0 {
-        return fault;
-    }
-    let q = query_file::query_of(query);
-    let fault = file::file_fault(plan, q.vertices, q.edges);
-    if fault != 0 {
-        return fault;
-    }
-    rules::rules_fault(q, plan_of(plan))
+    refusals::fault(check_plan_file(query, plan))
 }
 
 // Check plan.
 pub fn check_plan(query: &[u8], plan: &[u8]) -> CheckedPlan
     ensures { result ≡ check_answer query.now plan.now }
 {
-    let refusal = check_fault(query, plan);
-    if refusal != 0 {
-        return CheckedPlan {
-            refusal,
+    match check_plan_file(query, plan) {
+        Err(refusal) => CheckedPlan {
+            refusal: refusal.number(),
             operators: 0,
-        };
-    }
-    CheckedPlan {
-        refusal: 0,
-        operators: file::operator_count(plan),
+        },
+        Ok(()) => CheckedPlan {
+            refusal: 0,
+            operators: file::operator_count(plan),
+        },
     }
 }

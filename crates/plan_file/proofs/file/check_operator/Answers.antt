@@ -1,10 +1,10 @@
--- `plan_file::file::operator_fault` meets its contract: its tests, in bytes, are those of the definition, in bits. Assumes nothing.
+-- `plan_file::file::check_operator` meets its contract: its tests, in bytes, are those of the definition, in bits. Assumes nothing.
 use mathlib.Core.Path.{◌∙◌, sym}
 use lib.ListN.{length-replicate}
 use borrow.Author.Tests.{eq-eqb, ne_eqb}
 use Rattle.plan_file.proofs.Refusals.{stops, passes}
 use Rattle.plan_file.proofs.Places.{bits-lack, bits-there}
-use Rattle.plan_file.proofs.file.operator_fault.Goals as goal
+use Rattle.plan_file.proofs.file.check_operator.Goals as goal
 
 pub returns-then-file-bytes_for : goal.returns-then-file-bytes_for
 returns-then-file-bytes_for c = rw (stops 11 _ _ (bits-lack _ _ (rw c.bytes_for.ensures at c.if-file-bytes_for.true)))
@@ -30,4 +30,4 @@ returns c = rw (
   length-replicate c.args.m,
   ← c.operand.ensures,
   ← c.field-kind.ensures,
-) c.operand_fault.ensures
+) c.check_operand.ensures

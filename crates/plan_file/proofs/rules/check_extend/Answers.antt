@@ -1,4 +1,4 @@
--- `plan_file::rules::extend_fault` meets its contract, by its two tests as masks. Assumes nothing.
+-- `plan_file::rules::check_extend` meets its contract, by its two tests as masks. Assumes nothing.
 -- Past the first test, v is not in the set; and an edge joins it to the set where its neighbours meet the set.
 use mathlib.Core.Path.{◌≡◌, refl, sym, ◌∙◌}
 use mathlib.Core.Bool.{false, not}
@@ -11,7 +11,7 @@ use Rattle.query.specs.Inner.Struct.{query_in}
 use Rattle.query.specs.Inner.Mask.{in_mask}
 use Rattle.query.proofs.Touch.{touches-mask}
 use borrow.Author.Rules.{rules}
-use Rattle.plan_file.proofs.rules.extend_fault.Goals as goal
+use Rattle.plan_file.proofs.rules.check_extend.Goals as goal
 
 pub returns-then-member-eq1 : goal.returns-then-member-eq1
 returns-then-member-eq1 c = let a = c.args in rw (bit-one (in_mask a.s a.v) (sym c.member.ensures ∙ c.if-member-eq1.true))

@@ -1,4 +1,4 @@
--- `plan_file::rules::end_fault` meets its contract, by the depth of the pile. Assumes nothing.
+-- `plan_file::rules::check_end` meets its contract, by the depth of the pile. Assumes nothing.
 -- Over one result: it covers every vertex where the mask of those that it lacks is 0.
 use mathlib.Core.Path.{◌≡◌, sym, ◌∙◌, ap, ap₂}
 use mathlib.Core.Bool.{Bool, not, ◌&&◌}
@@ -16,7 +16,7 @@ use Rattle.plan_file.specs.Inner.Pile.{masks_in, sets_in}
 use Rattle.plan_file.proofs.Piles.{depth_is}
 use Rattle.plan.proofs.Piles.{end_none, end-one, end-many}
 use borrow.Author.Rules.{rules}
-use Rattle.plan_file.proofs.rules.end_fault.Goals as goal
+use Rattle.plan_file.proofs.rules.check_end.Goals as goal
 
 pub returns-then-depth-lt1 : goal.returns-then-depth-lt1
 returns-then-depth-lt1 c = let a = c.args in

@@ -1,7 +1,5 @@
--- `plan_file::rules::lost_edge_fault` meets its contract: the loop has lost none of the first i edges. Assumes nothing.
+-- `plan_file::rules::check_edges` meets its contract: the loop has lost none of the first i edges. Assumes nothing.
 use mathlib.Core.Path.{sym, ◌∙◌}
-use mathlib.Core.Bool.{true}
-use Prim.Native.Nat.{◌-◌}
 use native.Mathlib.Nat.{not-suc-le-zero, lt_of_lt_of_le}
 use native.Mathlib.Omega.{arith}
 use borrow.Author.Count.{below_more}
@@ -9,7 +7,7 @@ use Rattle.lists.proofs.Tests.{not-true, not-false}
 use Rattle.query.specs.Inner.Mask.{in_mask}
 use Rattle.plan.specs.Inner.Pile.{kept}
 use Rattle.plan.proofs.Sets.{edge-source, edge-target, edges-pass, edge-fails}
-use Rattle.plan_file.proofs.rules.lost_edge_fault.Goals as goal
+use Rattle.plan_file.proofs.rules.check_edges.Goals as goal
 
 pub loop-i-init : goal.loop-i-init
 loop-i-init c = (omega arith, λ j h. absurd (not-suc-le-zero h))
@@ -23,9 +21,6 @@ lost-requires c = rw c.edge.ensures (edge-source _ c.requires _ c.loop-i-test.tr
 pub returns-then-lost : goal.returns-then-lost
 returns-then-lost c = let a = c.args in
     rw (edge-fails a.q (kept (in_mask a.b) (in_mask a.p)) c.loop-i.i c.loop-i-test.true (not-true _ (sym (rw c.edge.ensures at c.lost.ensures) ∙ c.if-lost.true)))
-
-pub overflow_add-i : goal.overflow_add-i
-overflow_add-i c = omega (arith, c.requires.edges)
 
 pub loop-i-preserved : goal.loop-i-preserved
 loop-i-preserved c = (

@@ -1,4 +1,4 @@
--- `plan_file::rules::rule_fault` meets its contract, by the operator and the depth of the pile. Assumes nothing.
+-- `plan_file::rules::check_rule` meets its contract, by the operator and the depth of the pile. Assumes nothing.
 use mathlib.Core.Path.{sym, ◌∙◌}
 use native.Mathlib.Omega.{arith}
 use Rattle.plan.specs.Check.{rule_fault}
@@ -6,7 +6,7 @@ use Rattle.plan_file.specs.Inner.Pile.{masks_in}
 use Rattle.plan.proofs.Sets.{named-vertex}
 use Rattle.plan_file.proofs.Piles.{depth_is}
 use Rattle.plan.proofs.Piles.{extend-none, extend-some, join-few, join-two}
-use Rattle.plan_file.proofs.rules.rule_fault.Goals as goal
+use Rattle.plan_file.proofs.rules.check_rule.Goals as goal
 
 pub returns-then-pile-lt1 : goal.returns-then-pile-lt1
 returns-then-pile-lt1 c = let a = c.args in
@@ -15,8 +15,8 @@ returns-then-pile-lt1 c = let a = c.args in
 pub below_top-requires : goal.below_top-requires
 below_top-requires c = (c.if-pile-lt1.false, c.requires.2)
 
-pub extend_fault-requires : goal.extend_fault-requires
-extend_fault-requires c = (c.requires.0, named-vertex _ c.requires.0 _ (rw c.in-Extend.is at c.requires.1))
+pub check_extend-requires : goal.check_extend-requires
+check_extend-requires c = (c.requires.0, named-vertex _ c.requires.0 _ (rw c.in-Extend.is at c.requires.1))
 
 pub returns-then-pile-lt2 : goal.returns-then-pile-lt2
 returns-then-pile-lt2 c = let a = c.args in
@@ -28,8 +28,8 @@ below_top-requires-in-Join c = (c.if-pile-lt2.false, c.requires.2)
 pub below_top-requires-in-Join-2 : goal.below_top-requires-in-Join-2
 below_top-requires-in-Join-2 c = (omega (arith, c.if-pile-lt2.false), c.requires.2)
 
-pub join_fault-requires : goal.join_fault-requires
-join_fault-requires c = c.requires.0
+pub check_join-requires : goal.check_join-requires
+check_join-requires c = c.requires.0
 
 pub returns-in-Scan : goal.returns-in-Scan
 unfolding rule_fault
@@ -37,10 +37,10 @@ returns-in-Scan c = rw c.in-Scan.is
 
 pub returns-else-pile-lt1 : goal.returns-else-pile-lt1
 returns-else-pile-lt1 c = let a = c.args in
-    rw c.in-Extend.is (c.extend_fault.ensures ∙ rw c.below_top.ensures (sym (extend-some _ _ (masks_in a.pile) (omega (arith, depth_is a.pile, c.if-pile-lt1.false)))))
+    rw c.in-Extend.is (c.check_extend.ensures ∙ rw c.below_top.ensures (sym (extend-some _ _ (masks_in a.pile) (omega (arith, depth_is a.pile, c.if-pile-lt1.false)))))
 
 pub returns-else-pile-lt2 : goal.returns-else-pile-lt2
 returns-else-pile-lt2 c = let a = c.args in
     rw c.in-Join.is
-    (c.join_fault.ensures
+    (c.check_join.ensures
     ∙ rw (c.below_top-in-Join-2.ensures, c.below_top-in-Join.ensures) (sym (join-two _ (masks_in a.pile) (omega (arith, depth_is a.pile, c.if-pile-lt2.false)))))
