@@ -3,7 +3,7 @@
 // stands in them comes from `totals`.
 #![tactic(auto)]
 
-ghost use Rattle.std.specs.Prelude.{◌≡◌, ◌++◌, ◌≤◌, ◌<◌, length, take, drop, get_or};
+ghost use Rattle.std.specs.Prelude.{◌≡◌, ◌++◌, ◌≤◌, length, take, drop};
 ghost use Rattle.plan.specs.Plan.{max_operators};
 
 use plan::Plan;
@@ -38,14 +38,6 @@ impl Recorded {
             records: [Record { rows: 0, cost: 0 }; Plan::MAX_OPERATORS],
         }
     }
-
-    // The record of operator i.
-    pub fn record(self, i: usize) -> Record
-        requires { i < max_operators }
-        ensures { result ≡ get_or self.records i (record { rows = 0; cost = 0 }) }
-    {
-        self.records[i]
-    }
 }
 
 // Stores rows and cost of each operator into its record, and answers what the run does.
@@ -56,10 +48,7 @@ pub fn store_records(recorded: Recorded, records: &mut [Record]) -> RunAnswer
         ≡ take recorded.operators recorded.records ++ drop recorded.operators
         records.old) }
 {
-    let mut i = 0;
-    while i < recorded.operators {
-        records[i] = recorded.record(i);
-        i += 1;
-    }
+    let count = recorded.operators;
+    records[..count].copy_from_slice(&recorded.records[..count]);
     recorded.answer
 }
