@@ -22,13 +22,11 @@ fn count_labels(entries: &[u32]) -> [u32; Graph::EDGE_LABELS]
     ensures { result ≡ label_counts entries.now }
 {
     let mut counts = [0u32; Graph::EDGE_LABELS];
-    let mut i = 0;
-    while i < entries.len() {
-        let label = (entries[i] / Graph::SPAN) as usize;
+    for entry in entries {
+        let label = (*entry / Graph::SPAN) as usize;
         counts[label] += 1;
-        i += 1;
     }
-    counts[0] = i as u32;
+    counts[0] = entries.len() as u32;
     counts
 }
 
@@ -50,15 +48,11 @@ pub fn scan_edge(q: Query, counts: &[u32; Graph::EDGE_LABELS]) -> usize
 {
     let mut best = 0;
     let mut fewest = counts[q.edge(0).label as usize];
-    let mut i = 1;
-    while i < q.edges {
+    for i in 1..q.edges {
         let count = counts[q.edge(i).label as usize];
         if count < fewest {
             best = i;
             fewest = count;
-            i += 1;
-        } else {
-            i += 1;
         }
     }
     best
@@ -87,10 +81,8 @@ fn degree(q: Query, set: u32, v: usize) -> usize
         return 0;
     }
     let mut found = 0;
-    let mut i = 0;
-    while i < q.edges {
+    for i in 0..q.edges {
         found += joins(q.edge(i), v, set);
-        i += 1;
     }
     found
 }
@@ -102,15 +94,11 @@ pub fn next_vertex(q: Query, set: u32) -> usize
 {
     let mut best = 0;
     let mut most = degree(q, set, 0);
-    let mut v = 1;
-    while v < q.vertices {
+    for v in 1..q.vertices {
         let edges = degree(q, set, v);
         if most < edges {
             best = v;
             most = edges;
-            v += 1;
-        } else {
-            v += 1;
         }
     }
     best

@@ -1,7 +1,6 @@
 -- `plan_order::count_labels` meets its contract. The loop's invariant: the counts are those of the first i entries.
 -- Assumes nothing.
 use mathlib.Core.Path.{◌≡◌, refl}
-use Prim.Native.Nat.{◌-◌}
 use native.Mathlib.Omega.{arith}
 use lib.ListN.{length}
 use borrow.Author.Rules.{rules}
@@ -9,34 +8,31 @@ use Rattle.counting_sort.proofs.Counting.{tallied-none, tallied-fits, tallied-mo
 use Rattle.plan_order.proofs.Tallies.{label-below, tallied-all}
 use Rattle.plan_order.proofs.count_labels.Goals as goal
 
-pub loop-i-init : goal.loop-i-init
-loop-i-init c = (search rules, tallied-none _ _ _ refl)
+pub loop-entry-init : goal.loop-entry-init
+loop-entry-init c = tallied-none _ _ _ refl
 
 pub overflow_cast-label : goal.overflow_cast-label
-overflow_cast-label c = omega (arith, label-below c.args.entries.now c.loop-i.i c.requires (search rules))
+overflow_cast-label c = omega (arith, label-below c.args.entries.now c.loop-entry.entry-index c.requires (search rules))
 
 pub offset_bounds-counts-label : goal.offset_bounds-counts-label
-offset_bounds-counts-label c = omega (arith, label-below c.args.entries.now c.loop-i.i c.requires (search rules))
+offset_bounds-counts-label c = omega (arith, label-below c.args.entries.now c.loop-entry.entry-index c.requires (search rules))
 
 pub bounds-counts-label : goal.bounds-counts-label
-bounds-counts-label c = label-below c.args.entries.now c.loop-i.i c.requires (search rules)
+bounds-counts-label c = label-below c.args.entries.now c.loop-entry.entry-index c.requires (search rules)
 
 pub overflow_add-counts : goal.overflow_add-counts
-overflow_add-counts c = let low = label-below c.args.entries.now c.loop-i.i c.requires (search rules) in
-    omega (arith, tallied-fits _ _ c.loop-i.invariant.1 refl low, c.requires.few)
+overflow_add-counts c = let low = label-below c.args.entries.now c.loop-entry.entry-index c.requires (search rules) in
+    omega (arith, tallied-fits _ _ c.loop-entry.invariant refl low, c.requires.few)
 
-pub bounds-counts-label-in-loop-i : goal.bounds-counts-label-in-loop-i
-bounds-counts-label-in-loop-i c = label-below c.args.entries.now c.loop-i.i c.requires (search rules)
+pub bounds-counts-label-in-loop-entry : goal.bounds-counts-label-in-loop-entry
+bounds-counts-label-in-loop-entry c = label-below c.args.entries.now c.loop-entry.entry-index c.requires (search rules)
 
-pub loop-i-preserved : goal.loop-i-preserved
-loop-i-preserved c = (
-  search rules,
-  tallied-more _ _ c.loop-i.invariant.1 refl (label-below c.args.entries.now c.loop-i.i c.requires (search rules)),
-)
+pub loop-entry-preserved : goal.loop-entry-preserved
+loop-entry-preserved c = tallied-more _ _ c.loop-entry.invariant refl (label-below c.args.entries.now c.loop-entry.entry-index c.requires (search rules))
 
 pub overflow_cast-counts : goal.overflow_cast-counts
 overflow_cast-counts c = omega (arith, c.requires.few)
 
 pub returns : goal.returns
-returns c = let all : c.loop-i.i ≡ length c.args.entries.now = omega arith in
-    rw all (tallied-all c.args.entries.now c.loop-i.counts (rw all at c.loop-i.invariant.1))
+returns c = let all : c.loop-entry.entry-index ≡ length c.args.entries.now = omega arith in
+    tallied-all c.args.entries.now c.loop-entry.counts (rw all at c.loop-entry.invariant)

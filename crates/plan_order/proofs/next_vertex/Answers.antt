@@ -1,8 +1,6 @@
 -- `plan_order::next_vertex` meets its contract. The loop's invariant: the best of the first v vertices, and its edges. Assumes
 -- nothing.
--- nothing.
 use mathlib.Core.Path.{◌≡◌}
-use Prim.Native.Nat.{◌-◌}
 use native.Mathlib.Omega.{arith}
 use borrow.Author.Rules.{rules}
 use Rattle.query.specs.Inner.Mask.{in_mask}
@@ -10,6 +8,7 @@ use Rattle.query.specs.Inner.Struct.{query_in}
 use Rattle.plan_order.specs.Order.{degree, next_vertex}
 use Rattle.plan_order.proofs.Choosing.{kept-one, most-take, most-leave}
 use Rattle.plan_order.proofs.next_vertex.Goals as goal
+use Rattle.plan_order.proofs.next_vertex.Goals.{then-most-edges, else-most-edges}
 
 pub degree-most-requires : goal.degree-most-requires
 degree-most-requires c = (c.requires.held, omega arith)
@@ -20,17 +19,15 @@ loop-v-init c = (omega arith, kept-one _ _ _ c.degree-most.ensures)
 pub degree-edges-requires : goal.degree-edges-requires
 degree-edges-requires c = (c.requires.held, omega (arith, c.requires.held.vertices))
 
-pub loop-v-preserved-then-most-edges : goal.loop-v-preserved-then-most-edges
-loop-v-preserved-then-most-edges c = let a = c.args in (
-  search rules,
-  most-take (degree (query_in a.q) (in_mask a.set)) _ c.degree-edges.ensures c.loop-v.invariant.1 c.if-most-edges.true,
-)
-
 pub loop-v-preserved : goal.loop-v-preserved
-loop-v-preserved c = let a = c.args in (
-  search rules,
-  most-leave (degree (query_in a.q) (in_mask a.set)) _ c.degree-edges.ensures c.loop-v.invariant.1 c.if-most-edges.false,
-)
+loop-v-preserved c =
+    let asked = degree (query_in c.args.q) (in_mask c.args.set) in (
+      search rules,
+      elim c.if-most-edges.branch [
+        | then-most-edges w ↦ rw (w.best-is, w.most-is) (most-take asked _ c.degree-edges.ensures c.loop-v.invariant.1 w.if-most-edges.true)
+        | else-most-edges w ↦ rw (w.best-is, w.most-is) (most-leave asked _ c.degree-edges.ensures c.loop-v.invariant.1 w.if-most-edges.false)
+      ],
+    )
 
 pub returns : goal.returns
 unfolding next_vertex query_in
