@@ -1,13 +1,13 @@
 -- What is answered and left, refused or drawn, is what the definitions say. Assumes nothing.
 use mathlib.Core.Path.{◌≡◌, refl, sym, ◌∙◌, ap}
 use mathlib.Core.Bool.{cond}
-use mathlib.Core.List.{List, ◌++◌}
+use mathlib.Core.List.{List, [], ◌∷◌, ◌++◌}
 use Prim.Native.Nat.{ℕ, ◌≤◌, ◌<◌}
 use lib.Dec.{eqb}
 use lib.ListN.{length, drop}
 use borrow.Author.Tests.{ne_eqb, lt-ltb, le-ltb}
-use Rattle.lists.specs.Refusal.{refuse, answered}
-use Rattle.lists.proofs.Faults.{first-cons, first_some, first_one, zero-refuse}
+use Rattle.lists.specs.Refusal.{refuse, first, answered}
+use Rattle.lists.proofs.Faults.{first-cons, first_some, first_one, first_group, zero-refuse}
 use Rattle.graph.specs.Graph.{Graph}
 use Rattle.graph.specs.Store.{graph_in, store_fault}
 use Rattle.query.specs.Query.{Query}
@@ -49,15 +49,11 @@ module _ (store query bytes : List ℕ) where
   unfolding draw_answer draw_bytes
   refused k e bad = settled (refused_with k) bytes (rw (e, ne_eqb k 0 bad)) (rw (e, ne_eqb k 0 bad))
 
-  pub settled-query : (k : ℕ) → k ≡ query_fault query → (k ≡ 0 → ⊥) → Settled (refused_with k) bytes
+  pub settled-checked : (k : ℕ) → k ≡ first (query_fault query ∷ store_fault store ∷ []) → (k ≡ 0 → ⊥) → Settled (refused_with k) bytes
   unfolding draw_fault
-  settled-query k e bad = refused k (first_some _ _ (λ z. bad (e ∙ z)) ∙ sym e) bad
+  settled-checked k e bad = refused k (first_group (query_fault query ∷ store_fault store ∷ []) _ ∙ first_some _ _ (λ z. bad (e ∙ z)) ∙ sym e) bad
 
   module _ (read : query_fault query ≡ 0) where
-    pub settled-store : (k : ℕ) → k ≡ store_fault store → (k ≡ 0 → ⊥) → Settled (refused_with k) bytes
-    unfolding draw_fault
-    settled-store k e bad = refused k (first-cons _ _ read ∙ first_some _ _ (λ z. bad (e ∙ z)) ∙ sym e) bad
-
     -- What is left to an accepted graph and query.
     pub settled-drawn : store_fault store ≡ 0 → (r : DrawAnswer) (after : List ℕ) → Drawn (graph_in store) (query_of query) bytes after r → Settled r after
     unfolding draw_fault draw_answer draw_bytes

@@ -5,8 +5,11 @@
 
 mod pack;
 
-ghost use Rattle.std.specs.Prelude.{◌≡◌, length};
+ghost use Rattle.std.specs.Prelude.{◌≡◌, [], ◌∷◌, length};
+ghost use Rattle.refusals.specs.Refusals.{number, fault_of};
+ghost use Rattle.lists.specs.Refusal.{first};
 ghost use Rattle.graph.specs.Store.{graph_in, store_fault};
+ghost use Rattle.query.specs.File.{query_fault};
 ghost use Rattle.query.specs.Inner.Struct.{query_in};
 ghost use Rattle.planner.specs.Draw.{draw_answer, draw_bytes};
 ghost use Rattle.planner.specs.Complete.{PassesCheck};
@@ -26,10 +29,13 @@ pub struct DrawAnswer {
 }
 
 impl DrawAnswer {
-    fn refused(refusal: u32) -> Self
-        ensures { result ≡ record { refusal = refusal; bytes = 0 } }
+    fn refused(refusal: Refusal) -> Self
+        ensures { result ≡ record { refusal = number refusal; bytes = 0 } }
     {
-        DrawAnswer { refusal, bytes: 0 }
+        DrawAnswer {
+            refusal: refusal.number(),
+            bytes: 0,
+        }
     }
 }
 
@@ -42,10 +48,18 @@ pub fn draw_accepted(store: &[u32], q: Query, plan: &mut [u8]) -> DrawAnswer
     let edge = plan_order::scan_edge(q, &plan_order::edge_counts(store));
     let bytes = pack::plan_bytes(q.vertices);
     if plan.len() < bytes {
-        return DrawAnswer::refused(Refusal::PLAN_BYTES);
+        return DrawAnswer::refused(Refusal::PlanBytes);
     }
     pack::put_plan(q, edge, plan);
     DrawAnswer { refusal: 0, bytes }
+}
+
+// Refuses a query file as Read query does, then a store that no accepted graph file loads to.
+fn check(store: &[u32], query: &[u8]) -> Result<(), Refusal>
+    ensures { fault_of result ≡ first (query_fault query.now ∷ store_fault store.now ∷ []) }
+{
+    query_file::check_query(query)?;
+    store_check::check_store(store)
 }
 
 // Draws a plan.
@@ -56,13 +70,8 @@ pub fn draw_plan(store: &[u32], query: &[u8], plan: &mut [u8]) -> DrawAnswer
         plan.old }
     ensures checked { PassesCheck store.now query.now result plan.new }
 {
-    let fault = query_file::query_fault(query);
-    if fault != 0 {
-        return DrawAnswer::refused(fault);
+    match check(store, query) {
+        Err(refusal) => DrawAnswer::refused(refusal),
+        Ok(()) => draw_accepted(store, query_file::query_of(query), plan),
     }
-    let fault = store_check::store_fault(store);
-    if fault != 0 {
-        return DrawAnswer::refused(fault);
-    }
-    draw_accepted(store, query_file::query_of(query), plan)
 }

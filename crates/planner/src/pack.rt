@@ -69,13 +69,11 @@ fn put_extends(q: Query, set: u32, plan: &mut [u8])
     let extends = q.vertices - 2;
     let mut covered = set;
     let mut at = SCAN_BITS;
-    let mut i = 0;
-    while i < extends {
+    for _i in 0..extends {
         let v = next_vertex(q, covered);
         put_extend(plan, at, v);
         covered = set::only(v) | covered;
         at += EXTEND_BITS;
-        i += 1;
     }
 }
 

@@ -2,7 +2,7 @@
 use mathlib.Core.Path.{◌≡◌, sym, ◌∙◌, ap}
 use mathlib.Core.List.{List, ◌++◌}
 use mathlib.Core.Path.{refl}
-use Prim.Native.Nat.{ℕ, ◌+◌, ◌-◌, ◌<◌}
+use Prim.Native.Nat.{ℕ, ◌-◌, ◌<◌}
 use native.Mathlib.Omega.{arith}
 use lib.ListN.{length-append}
 use borrow.Author.Rules.{rules}
@@ -46,19 +46,19 @@ loop-i-preserved c = let l = c.loop-i in
     let n = c.args.q.vertices - 2 in
     let v = c.next_vertex-v.result in
     let vs = extends_from q S n in
-    let below : l.i < n = search rules in
+    let below : l._i < n = search rules in
     let next : v ≡ next_vertex q (in_mask l.covered) = c.next_vertex-v.ensures.0 in (
       omega arith,
       search rules,
       c.put_extend.auto.plan ∙ l.invariant.2,
-      turned_more q n S l.i l.covered v l.invariant.3 below next c.only-covered.result c.only-covered.ensures,
+      turned_more q n S l._i l.covered v l.invariant.3 below next c.only-covered.result c.only-covered.ensures,
       λ old bits e k.
-          c.put_extend.ensures old (bits ++ bits_to vs l.i) (l.invariant.4 old bits e k)
-          (length-append bits (bits_to vs l.i) ∙ omega (arith, length-bits_to vs l.i (rw length-extends (omega arith))))
-          ∙ ap (written old) (bits_to-more bits vs l.i v (rw length-extends below) (turned-next q n S l.i l.covered v l.invariant.3 below next)),
+          c.put_extend.ensures old (bits ++ bits_to vs l._i) (l.invariant.4 old bits e k)
+          (length-append bits (bits_to vs l._i) ∙ omega (arith, length-bits_to vs l._i (rw length-extends (omega arith))))
+          ∙ ap (written old) (bits_to-more bits vs l._i v (rw length-extends below) (turned-next q n S l._i l.covered v l.invariant.3 below next)),
     )
 
 pub returns : goal.returns
 returns c old bits e k = c.loop-i.invariant.4 old bits e k
     ∙ ap (λ (l : List ℕ). written old (bits ++ l))
-    (bits_to-all (extends_from (query_in c.args.q) (in_mask c.args.set) (c.args.q.vertices - 2)) c.loop-i.i (rw length-extends (omega arith)))
+    (bits_to-all (extends_from (query_in c.args.q) (in_mask c.args.set) (c.args.q.vertices - 2)) c.loop-i._i (rw length-extends (omega arith)))
