@@ -6,7 +6,7 @@ use Prim.Native.Nat.{ℕ, ◌≤◌}
 use borrow.Author.Tests.{ne_eqb}
 use Rattle.lists.specs.Lists.{all}
 use Rattle.lists.proofs.Maps.{length-image}
-use Rattle.lists.proofs.Faults.{first-cons, first_some, first-nil}
+use Rattle.lists.proofs.Faults.{first-cons, first_head, first_one, first_some, first-nil}
 use Rattle.graph.specs.Store.{graph_in, store_fault}
 use Rattle.query.specs.File.{query_of}
 use Rattle.query.specs.Answer.{struct_of}
@@ -39,19 +39,28 @@ read-drawable query plan e =
     }
 
 module _ (store query plan : List ℕ) where
-  refused : (k : ℕ) → bounds_fault store query plan ≡ k → (k ≡ 0 → ⊥) → refused_with k ≡ bounds_answer store query plan
+  pub refused : (k : ℕ) → bounds_fault store query plan ≡ k → (k ≡ 0 → ⊥) → refused_with k ≡ bounds_answer store query plan
   unfolding bounds_answer
   refused k e bad = rw (e, ne_eqb k 0 bad)
 
-  pub refused-plan : (k : ℕ) → k ≡ check_fault query plan → (k ≡ 0 → ⊥) → refused_with k ≡ bounds_answer store query plan
+  -- The plan's fault counts, and the store's where it has none.
+  pub fault-plan : (k : ℕ) → k ≡ check_fault query plan → (k ≡ 0 → ⊥) → k ≡ bounds_fault store query plan
   unfolding bounds_fault
-  refused-plan k e bad = refused k (first_some _ _ (λ z. bad (e ∙ z)) ∙ sym e) bad
+  fault-plan k e bad = e ∙ sym (first_some _ _ (λ z. bad (e ∙ z)))
+
+  pub fault-store : check_fault query plan ≡ 0 → bounds_fault store query plan ≡ store_fault store
+  unfolding bounds_fault
+  fault-store checked = first-cons _ _ checked ∙ first_one _
+
+  -- Neither has one where nothing is refused.
+  pub plan_accepted : bounds_fault store query plan ≡ 0 → check_fault query plan ≡ 0
+  unfolding bounds_fault
+  plan_accepted e = first_head _ _ e
+
+  pub store_accepted : bounds_fault store query plan ≡ 0 → store_fault store ≡ 0
+  store_accepted e = sym (fault-store (plan_accepted e)) ∙ e
 
   module _ (checked : check_fault query plan ≡ 0) where
-    pub refused-store : (k : ℕ) → k ≡ store_fault store → (k ≡ 0 → ⊥) → refused_with k ≡ bounds_answer store query plan
-    unfolding bounds_fault
-    refused-store k e bad = refused k (first-cons _ _ checked ∙ first_some _ _ (λ z. bad (e ∙ z)) ∙ sym e) bad
-
     pub all_named : all (named (query_in (struct_of (query_of query)))) (operators_in (plan_struct plan)) ≡ true
     all_named = rw (file-struct query, file-operators plan) (accepted query plan checked).plan_named
 

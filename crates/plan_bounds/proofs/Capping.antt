@@ -1,11 +1,11 @@
 -- Stopping at a top value at each step is stopping there at the end; more build rows have no fewer heads. Assumes nothing.
-use mathlib.Core.Path.{◌≡◌, refl, sym, ◌∙◌, ap, ap₂}
+use mathlib.Core.Path.{◌≡◌, refl, ◌∙◌, ap, ap₂}
 use mathlib.Core.Bool.{Bool, true, false}
 use Prim.Native.Nat.{ℕ, zero, suc, ◌+◌, ◌*◌, ◌/◌, ◌^◌, min, max, ◌≤◌, ◌<◌}
-use native.Mathlib.Nat.{le_refl, mul_comm, le-mul_of_pos_right, le-div_iff_mul-le, div-lt_iff_lt-mul}
+use native.Mathlib.Nat.{le_refl, mul_comm, le-mul_of_pos_right}
 use native.Mathlib.Omega.{arith}
 use lib.Dec.{ltb}
-use lib.Pow.{pow_mono}
+use lib.Pow.{pow_pos, pow_mono}
 use borrow.Author.Tests.{ltb-true, ltb-false}
 use Rattle.operator_spec.specs.Join.{heads}
 use Rattle.join_key.proofs.Doubled.{Doubled, doubled-one, doubled-some, doubled-next, doubled-last}
@@ -109,14 +109,20 @@ module _ (top : ℕ) where
 
 -- ---- the code's tests of a product, and of a power of two that is the last
 
-pub times_none : (top a b : ℕ) → b ≡ 0 → 0 ≡ min (a * b) top
-times_none top a b e = rw e (omega arith)
+-- A power of two whose half is below b, as the library's least one not below b is, and the last one of 64 bits.
+pub least-power : (b h : ℕ) → (k : ℕ) × (h ≡ 2 ^ k) → h / 2 < max 1 b → Doubled b h
+least-power b h p l = record { k = p.0; power = p.1; below = λ j m. go p.0 j p.1 m }
+  where
+    go : (k j : ℕ) → h ≡ 2 ^ k → j < k → 2 ^ j < b
+    go zero j e m = absurd (omega arith)
+    go (suc k) j e m =
+        let half : h / 2 ≡ 2 ^ k = rw e (omega arith) in
+        let low : 2 ^ j ≤ 2 ^ k = pow_mono (omega arith) in
+        omega (arith, pow_pos j)
 
-pub times-over : (top a b : ℕ) → (b ≡ 0 → ⊥) → top / b < a → top ≡ min (a * b) top
-times-over top a b some l = let m : top < a * b = (div-lt_iff_lt-mul {k = b} {x = top} {y = a} (omega arith)).0 l in omega arith
-
-pub times-fits : (top a b : ℕ) → (b ≡ 0 → ⊥) → a ≤ top / b → a * b ≤ top
-times-fits top a b some l = (le-div_iff_mul-le {k = b} {x = a} {y = top} (omega arith)).0 l
+pub last-power : (b : ℕ) → 9223372036854775808 < b → Doubled b 9223372036854775808
+last-power b l =
+    record { k = 63; power = refl; below = λ j m. let low : 2 ^ j ≤ 2 ^ 63 = pow_mono {i = j} {j = 63} (omega arith) in omega arith }
 
 -- Where the last power of two of 64 bits is still below b, the heads of b pass 64 bits.
 pub heads-over : (b h : ℕ) → Doubled b h → h < b → 2 ^ 63 ≤ h → 18446744073709551615 ≡ min (heads b) 18446744073709551615

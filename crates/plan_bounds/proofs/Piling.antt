@@ -1,9 +1,9 @@
 -- Laws of the pile of bounds as the code holds it. Assumes nothing.
-use mathlib.Core.Path.{◌≡◌, refl, sym, ◌∙◌, ap, ap₂}
+use mathlib.Core.Path.{◌≡◌, sym, ◌∙◌, ap, ap₂}
 use mathlib.Core.List.{List, [], ◌∷◌, ◌++◌, map}
-use Prim.Native.Nat.{ℕ, ◌+◌, ◌*◌, ◌-◌, min, max, ◌≤◌, ◌<◌}
+use Prim.Native.Nat.{ℕ, ◌+◌, max, ◌≤◌, ◌<◌}
 use native.Mathlib.Omega.{arith}
-use lib.ListN.{length, drop, get_or, length-append, length-drop}
+use lib.ListN.{length, drop, get_or, length-drop}
 use Rattle.lists.specs.Lists.{total, largest}
 use Rattle.lists.proofs.Count.{total-append, largest-snoc}
 use Rattle.lists.proofs.Maps.{get_d_map, drop-map}
@@ -12,7 +12,7 @@ use Rattle.query.specs.Inner.Mask.{in_mask}
 use Rattle.plan.proofs.Stacks.{length-stack}
 use Rattle.plan_bounds.specs.Bounds.{Bound, StepBound}
 use Rattle.plan_bounds.specs.Answer.{given}
-use Rattle.plan_bounds.specs.Inner.Held.{sets_in, rows_in, needs_in, Under, Put, Piled}
+use Rattle.plan_bounds.specs.Inner.Held.{sets_in, Under, Put, Piled}
 use Rattle.plan_bounds.specs.declared.pile.Bounded.{Bounded}
 use Rattle.plan_bounds.specs.declared.pile.Pile.{Pile}
 use Rattle.plan_bounds.proofs.Capping.{cap-add, cap-max}
@@ -80,7 +80,7 @@ pub lies-under : (p : Pile) (steps : List StepBound) (pile : List Bound) (under 
     → (c : Bound) → get_or pile under no_bound ≡ c → Is c b
 lies-under p steps pile under b l h u c e =
     let deep : under < length pile = rw h.depth at l in
-    let masks : length (sets_in p) ≡ length pile = length-stack p.depth p.sets ∙ h.depth in
+    let masks : length (sets_in p) ≡ length pile = length-stack p.depth (map (λ (b : Bounded). b.set) p.bounds) ∙ h.depth in
     record {
       set =
           ap in_mask u.set ∙ sym (get_d_map in_mask (sets_in p) under 0 (in_mask 0) (rw masks deep)) ∙ ap (λ (l : List VertexSet). get_or l under (in_mask 0)) h.sets

@@ -1,15 +1,15 @@
 -- Where the bounds lie below the cap and scratch and list reach theirs, a run is never refused by 20, 21 or 30. Assumes nothing.
-use mathlib.Core.Path.{◌≡◌, refl, sym, ◌∙◌, ap}
-use mathlib.Core.Bool.{Bool, true, false, cond, ◌&&◌, ◌||◌}
-use mathlib.Core.List.{List, [], ◌∷◌, flat_map}
-use Prim.Native.Nat.{ℕ, ◌+◌, ◌*◌, min, ◌≤◌, ◌<◌}
+use mathlib.Core.Path.{◌≡◌, refl, sym, ◌∙◌}
+use mathlib.Core.Bool.{Bool, true, false, ◌&&◌, ◌||◌}
+use mathlib.Core.List.{List, [], ◌∷◌}
+use Prim.Native.Nat.{ℕ, ◌*◌, ◌≤◌, ◌<◌}
 use native.Mathlib.Nat.{le_trans, mul-le-mul_left, mul-le-mul_right}
 use native.Mathlib.Omega.{arith}
 use lib.Dec.{eqb, leb, ltb}
 use lib.ListN.{length}
-use borrow.Author.Tests.{ltb-true, le-ltb, leb-true, le-leb, eq-eqb}
-use Rattle.lists.specs.Lists.{all, any, total, range}
-use Rattle.lists.specs.Refusal.{refuse, first}
+use borrow.Author.Tests.{le-ltb, leb-true, le-leb, eq-eqb}
+use Rattle.lists.specs.Lists.{all, any, total}
+use Rattle.lists.specs.Refusal.{refuse}
 use Rattle.lists.proofs.Tests.{clash, and_l, and_r, and_both, or-false, or-false-l, or-false-r}
 use Rattle.lists.proofs.Any.{any-flat_map, any-fails}
 use Rattle.lists.proofs.All.{all-and}
@@ -29,8 +29,8 @@ use Rattle.run_spec.specs.Run.{plan_steps, plan_rows, plan_need, plan_cost, plan
 use Rattle.run_spec.proofs.Demand.{checked-edges}
 use Rattle.run_spec.proofs.Records.{count-steps}
 use Rattle.plan_bounds.specs.Bounds.{bounds_after, list_bound, need_bound, costs_bound, largest_bound}
-use Rattle.plan_bounds.specs.Answer.{given, bounds_fault, bounds_answer}
-use Rattle.plan_bounds.specs.Promise.{BelowCap, NotShort, NeverShort}
+use Rattle.plan_bounds.specs.Answer.{bounds_fault, bounds_answer}
+use Rattle.plan_bounds.specs.Promise.{NotShort, NeverShort}
 use Rattle.plan_bounds.proofs.Steady.{few, within-after, costs-within, steps-few, top-rows, top-need}
 
 -- What is summed is at least each number,

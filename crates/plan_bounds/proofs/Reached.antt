@@ -1,8 +1,8 @@
 -- What an operator does over rows is within its bounds: a set is at most each of its portions, a portion at most the longest one, and a scan's
 -- rows at most its label's edges. Assumes nothing.
-use mathlib.Core.Path.{◌≡◌, refl, sym, ◌∙◌, ap}
+use mathlib.Core.Path.{◌≡◌, refl, sym, ◌∙◌}
 use mathlib.Core.Bool.{Bool, true, false, cond, ◌&&◌}
-use mathlib.Core.List.{List, [], ◌∷◌, map, flat_map, Memᴰ}
+use mathlib.Core.List.{List, [], ◌∷◌, map, Memᴰ}
 use mathlib.Core.Option.{Option, none, some}
 use Prim.Native.Nat.{ℕ, ◌+◌, ◌*◌, ◌≤◌, ◌<◌}
 use native.Mathlib.Nat.{le_trans, mul_comm}
@@ -29,7 +29,7 @@ use Rattle.operator_spec.specs.Join.{agree, joined, partners, join_rows}
 use Rattle.operator_spec.proofs.Cached.{extend-rows}
 use Rattle.operator_spec.proofs.Reach.{reaches, candidates-reach}
 use Rattle.run_spec.specs.Pile.{longest_set}
-use Rattle.plan_bounds.specs.Bounds.{least, longest_portion, longest_for, least_portion, sum_of_portions}
+use Rattle.plan_bounds.specs.Bounds.{longest_portion, longest_for, least_portion, sum_of_portions}
 use Rattle.plan_bounds.proofs.Counting.{total-le, total_at_most, largest-at-most, at-most-least, at-most-largest, reach-one, reach-count}
 
 -- ---- portions

@@ -2,27 +2,25 @@
 use mathlib.Core.Path.{◌≡◌, refl, sym, ◌∙◌, ap, ap₂}
 use mathlib.Core.Bool.{Bool, true, false, cond, ◌&&◌}
 use mathlib.Core.List.{List, [], ◌∷◌, ◌++◌, map, map-append, append-nil}
-use Prim.Native.Nat.{ℕ, suc, ◌+◌, ◌*◌, ◌/◌, min, max, ◌≤◌, ◌<◌}
-use native.Mathlib.Nat.{le_trans}
+use Prim.Native.Nat.{ℕ, ◌+◌, ◌/◌, min, max, ◌≤◌, ◌<◌}
 use native.Mathlib.Numerals.{add-one}
 use native.Mathlib.Omega.{arith}
 use lib.Dec.{eqb}
 use lib.ListN.{length, get_or, take, drop, length-append}
-use lib.Seq.{take-suc}
 use borrow.Author.Tests.{eqb-true, eqb-false, eq-eqb, ne_eqb}
 use Rattle.lists.specs.Lists.{bit, range, keep, count_if, total, largest}
 use mir.Val.{bool_byte}
 use Rattle.lists.proofs.Bits.{bit_le}
-use Rattle.lists.proofs.All.{keep_append, all_true}
-use Rattle.lists.proofs.Count.{count-le, count-all, count_under, count-snoc, length-keep, total-append, total-map, largest-snoc}
+use Rattle.lists.proofs.All.{keep_append}
+use Rattle.lists.proofs.Count.{count-le, length-keep, total-append, total-map, largest-snoc}
 use Rattle.lists.proofs.Maps.{image-suc, get_or-image}
-use Rattle.graph.specs.Graph.{Edge, Graph, Direction, forward, backward, near, entry_span, covers, portion_length}
+use Rattle.graph.specs.Graph.{Edge, Graph, Direction, forward, backward, near, covers, portion_length}
 use Rattle.graph.specs.Store.{graph_in, store_fault}
 use Rattle.graph.specs.Inner.Side.{side_at}
 use Rattle.graph.specs.declared.Graph.{Graph as GraphStruct}
-use Rattle.adjacency.specs.Inner.Side.{list_on, vertices_in, edges_in, side_in, Within, Lookup}
+use Rattle.adjacency.specs.Inner.Side.{list_on, vertices_in, edges_in, side_in, Lookup}
 use Rattle.adjacency.specs.Inner.Portion.{list_of, portion}
-use Rattle.adjacency.proofs.Accepted.{graph-formed, store-vertices, store-edges, lookup-list}
+use Rattle.adjacency.proofs.Accepted.{graph-formed, lookup-list}
 use Rattle.adjacency.proofs.Portions.{portion-length}
 use Rattle.query.specs.Query.{Query, VertexSet, between}
 use Rattle.query.specs.Inner.Struct.{edge_of, query_in}
@@ -99,8 +97,8 @@ largest-next f v = rw (add-one v) (largest-snoc f (range v) v)
 pub longest-pass : (f : ℕ → ℕ) (most v : ℕ) → most ≡ largest f (range v) → f v ≤ most → most ≡ largest f (range (v + 1))
 longest-pass f most v e l = omega (arith, largest-next f v)
 
-pub longest-take : (f : ℕ → ℕ) (most v n : ℕ) → most ≡ largest f (range v) → n ≡ f v → most < n → n ≡ largest f (range (v + 1))
-longest-take f most v n e i l = omega (arith, largest-next f v)
+pub longest-max : (f : ℕ → ℕ) (most v n : ℕ) → most ≡ largest f (range v) → n ≡ f v → max most n ≡ largest f (range (v + 1))
+longest-max f most v n e i = omega (arith, largest-next f v)
 
 module _ (store : List ℕ) (n side : ℕ) (asked : Sided store n side) (v : ℕ) (below : v < n) where
   pub lookup : Lookup store n side v
@@ -173,20 +171,7 @@ byte-bit false = refl
 pub byte_le : (b : Bool) → bool_byte b ≤ 1
 byte_le b = omega (arith, byte-bit b, bit_le b)
 
-pub counted_next : (l : ℕ) (s : List ℕ) (i : ℕ) → i < length s
-    → count_if (λ (k : ℕ). eqb (k / 65536) l) (take (i + 1) s) ≡ count_if (λ (k : ℕ). eqb (k / 65536) l) (take i s) + bit (eqb (get_or s i 0 / 65536) l)
-counted_next l s i h = rw (add-one i, take-suc s i 0 h) (count-snoc (λ (k : ℕ). eqb (k / 65536) l) (take i s) (get_or s i 0))
-
-pub counted-all : (l : ℕ) (s : List ℕ) → 0 < l → count_if (λ (k : ℕ). eqb (k / 65536) l) s ≡ count_if (covering l) s
-unfolding covers
-counted-all l s some =
-    count_under (λ (k : ℕ). true) (λ (k : ℕ). eqb (k / 65536) l) (covering l) s (all_true s) (λ k t. sym (rw (ne_eqb l 0 (λ e. omega arith))))
-
 module _ (store : List ℕ) (good : store_fault store ≡ 0) where
-  pub edges-any : (l : ℕ) → l ≡ 0 → edges_in store ≡ edges_of (graph_in store) l
-  unfolding edges_of covers
-  edges-any l e = rw e (store-edges store good ∙ sym (count-all (λ (d : Edge). covers 0 d.label) (graph_in store).edges (all_true (graph_in store).edges)))
-
   pub edges-label : (l : ℕ) → l < 256 → count_if (covering l) (take (edges_in store) (drop (side_at forward (vertices_in store) (edges_in store) + vertices_in store + 1) store)) ≡ edges_of (graph_in store) l
   unfolding label_counts edge_counts
   edges-label l h =

@@ -1,8 +1,8 @@
 -- Every result in the pile of an accepted plan is within its bound, and so is every step. Assumes nothing.
 use mathlib.Core.Path.{◌≡◌, refl, ap, ap₂}
-use mathlib.Core.Bool.{Bool, true, not, ◌&&◌, ◌||◌}
+use mathlib.Core.Bool.{Bool, true, not, ◌&&◌}
 use mathlib.Core.List.{List, [], ◌∷◌}
-use Prim.Native.Nat.{ℕ, ◌+◌, ◌*◌, max, ◌≤◌, ◌<◌}
+use Prim.Native.Nat.{ℕ, ◌+◌, ◌*◌, max, ◌≤◌}
 use native.Mathlib.Nat.{le_refl, le_trans, mul-le-mul, mul-le-mul_right}
 use native.Mathlib.Omega.{arith}
 use lib.Dec.{leb}
@@ -16,7 +16,7 @@ use Rattle.graph.proofs.WellFormed.{WellFormed}
 use Rattle.query.specs.Query.{Query, VertexSet, touches}
 use Rattle.plan.specs.Plan.{Operator, scan, extend, join, plus, union}
 use Rattle.plan.specs.Inner.Pile.{named}
-use Rattle.plan.specs.Check.{rule_fault, covered, rules_fault}
+use Rattle.plan.specs.Check.{rule_fault, rules_fault}
 use Rattle.matching.specs.Row.{width}
 use Rattle.matching.proofs.Cuts.{proper}
 use Rattle.operator_spec.specs.Join.{heads}

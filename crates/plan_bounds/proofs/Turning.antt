@@ -1,12 +1,12 @@
 -- Laws of the code's pile operator by operator, and of what is answered at the end. Assumes nothing.
 use mathlib.Core.Path.{◌≡◌, refl, sym, ◌∙◌, ap, ap₂}
 use mathlib.Core.List.{List, [], ◌∷◌, ◌++◌, map}
-use Prim.Native.Nat.{ℕ, ◌+◌, ◌*◌, min, max, ◌≤◌, ◌<◌}
+use Prim.Native.Nat.{ℕ, ◌+◌, ◌*◌, max, ◌≤◌, ◌<◌}
 use native.Mathlib.Nat.{mul_comm}
 use native.Mathlib.Numerals.{add-one}
 use native.Mathlib.Omega.{arith}
 use lib.ListN.{length}
-use Rattle.lists.specs.Lists.{range, total, largest}
+use Rattle.lists.specs.Lists.{range}
 use Rattle.lists.proofs.All.{length-range}
 use Rattle.lists.proofs.Count.{count-le, length-keep}
 use Rattle.lists.proofs.Maps.{image-suc, length-image}
@@ -22,7 +22,6 @@ use Rattle.operator_spec.specs.Join.{heads}
 use Rattle.plan_bounds.specs.Bounds.{least_portion, sum_of_portions, Bound, rows_bound, cost_bound, apply_bound, bounds_after, StepBound, step_bound, step_bounds, top_rows_bound, top_need_bound, list_bound, need_bound, costs_bound, largest_bound}
 use Rattle.plan_bounds.specs.Answer.{given}
 use Rattle.plan_bounds.specs.Inner.Held.{Under, Put, Piled, After, Numbers}
-use Rattle.plan_bounds.specs.declared.BoundsAnswer.{BoundsAnswer}
 use Rattle.plan_bounds.specs.declared.pile.Bounded.{Bounded}
 use Rattle.plan_bounds.specs.declared.pile.Pile.{Pile}
 use Rattle.plan_bounds.proofs.Capping.{cap-left, cap-mul, cap-need, cap-join}

@@ -9,7 +9,10 @@ mod longest;
 mod pile;
 
 ghost use Rattle.std.specs.Prelude.{◌≡◌};
-ghost use Rattle.plan_bounds.specs.Answer.{bounds_answer};
+ghost use Rattle.refusals.specs.Refusals.{number, fault_of};
+ghost use Rattle.plan_bounds.specs.Answer.{bounds_fault, bounds_answer};
+
+use refusals::Refusal;
 
 // What Bounds answers: a refusal with zeros, or 0 with the four numbers, each one too large for 64 bits as
 // the largest of them.
@@ -28,9 +31,9 @@ pub struct BoundsAnswer {
 }
 
 impl BoundsAnswer {
-    fn refused(refusal: u32) -> Self
+    fn refused(refusal: Refusal) -> Self
         ensures { result ≡ record {
-          refusal = refusal;
+          refusal = number refusal;
           list_words = 0;
           scratch_words = 0;
           cost = 0;
@@ -38,7 +41,7 @@ impl BoundsAnswer {
         } }
     {
         BoundsAnswer {
-            refusal,
+            refusal: refusal.number(),
             list_words: 0,
             scratch_words: 0,
             cost: 0,
@@ -47,17 +50,20 @@ impl BoundsAnswer {
     }
 }
 
+// Refuses a plan as Check plan does, and then a store to which no graph file loads.
+fn check_bounds(store: &[u32], query: &[u8], plan: &[u8]) -> Result<(), Refusal>
+    ensures { fault_of result ≡ bounds_fault store.now query.now plan.now }
+{
+    plan_file::check_plan_file(query, plan)?;
+    store_check::check_store(store)
+}
+
 // The bounds of a plan.
 pub fn bounds(store: &[u32], query: &[u8], plan: &[u8]) -> BoundsAnswer
     ensures { result ≡ bounds_answer store.now query.now plan.now }
 {
-    let fault = plan_file::check_fault(query, plan);
-    if fault != 0 {
-        return BoundsAnswer::refused(fault);
+    match check_bounds(store, query, plan) {
+        Err(refusal) => BoundsAnswer::refused(refusal),
+        Ok(()) => pile::answer(store, query_file::query_of(query), plan_file::plan_of(plan)),
     }
-    let fault = store_check::store_fault(store);
-    if fault != 0 {
-        return BoundsAnswer::refused(fault);
-    }
-    pile::answer(store, query_file::query_of(query), plan_file::plan_of(plan))
 }

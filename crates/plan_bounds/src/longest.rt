@@ -12,7 +12,7 @@ ghost use Rattle.plan_order.specs.Order.{edges_of};
 ghost use Rattle.plan_order.specs.Inner.Counts.{Drawable};
 ghost use Rattle.adjacency.specs.Inner.Side.{side_in, Lookup};
 ghost use Rattle.plan_bounds.specs.Bounds.{longest_portion, longest_for, least_portion, sum_of_portions};
-ghost use Rattle.plan_bounds.specs.Inner.Held.{Sided, Counts, Seen, covering};
+ghost use Rattle.plan_bounds.specs.Inner.Held.{Sided, Counts, Seen};
 
 use adjacency::neighbours;
 use graph::Graph;
@@ -47,29 +47,19 @@ impl Portions {
         ensures { ((lengths : List ℕ) → Seen lengths self → Seen (lengths ++ (length ∷ [])) result)
             × (result.count ≡ self.count + 1) × (result.sum ≡ self.sum + length) }
     {
-        if self.count == 0 {
-            return Portions {
-                count: 1,
-                least: length,
-                sum: self.sum + length,
-            };
-        }
-        if length < self.least {
-            return Portions {
-                count: self.count + 1,
-                least: length,
-                sum: self.sum + length,
-            };
-        }
         Portions {
             count: self.count + 1,
-            least: self.least,
+            least: if self.count == 0 {
+                length
+            } else {
+                self.least.min(length)
+            },
             sum: self.sum + length,
         }
     }
 }
 
-// How many entries of a list a label covers.
+// How many entries of a list a label covers. The sum takes no branch.
 fn covered(list: &[u32], label: u32) -> usize
     ensures { result ≡ count_if (λ (k : ℕ). covers label (k / entry_span)) list.now }
 {
@@ -77,14 +67,8 @@ fn covered(list: &[u32], label: u32) -> usize
         return list.len();
     }
     let mut count = 0;
-    let mut i = 0;
-    while i < list.len() {
-        if list[i] / Graph::SPAN == label {
-            count += 1;
-            i += 1;
-        } else {
-            i += 1;
-        }
+    for &entry in list {
+        count += (entry / Graph::SPAN == label) as usize;
     }
     count
 }
@@ -107,18 +91,9 @@ fn longest(store: &[u32], n: usize, side: usize, label: u32) -> usize
         → result ≡ longest_portion (graph_in store.now) d label }
 {
     let mut most = 0;
-    let mut v = 0;
-    while v < n {
-        if neighbours(store, n, side, v).len() <= most {
-            v += 1;
-        } else {
-            let length = portion_length(store, n, side, v, label);
-            if most < length {
-                most = length;
-                v += 1;
-            } else {
-                v += 1;
-            }
+    for v in 0..n {
+        if most < neighbours(store, n, side, v).len() {
+            most = most.max(portion_length(store, n, side, v, label));
         }
     }
     most
@@ -170,29 +145,12 @@ pub fn of_edges(store: &[u32], q: Query, v: usize, set: u32) -> Portions
     seen
 }
 
-// How many of the entries a label covers.
-fn count(entries: &[u32], label: u32) -> usize
-    requires { label < suc max_edge_label }
-    ensures { 0 < label → result ≡ count_if (covering label) entries.now }
-{
-    let mut found = 0;
-    let mut i = 0;
-    while i < entries.len() {
-        found += (entries[i] / Graph::SPAN == label) as usize;
-        i += 1;
-    }
-    found
-}
-
 // How many data edges a label has; label 0 counts them all.
 pub fn edges_of(store: &[u32], label: u32) -> usize
     requires { (store_fault store.now ≡ 0) × (label < suc max_edge_label) }
     ensures { result ≡ edges_of (graph_in store.now) label }
 {
     let g = Graph::of_store(store);
-    if label == 0 {
-        return g.edges;
-    }
     let from = g.forward() + g.vertices + 1;
-    count(&store[from..from + g.edges], label)
+    covered(&store[from..from + g.edges], label)
 }

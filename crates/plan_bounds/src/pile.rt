@@ -34,12 +34,8 @@ pub struct Bounded {
 pub struct Pile {
     // How many there are; the top one is at depth - 1.
     pub depth: usize,
-    // The query vertices that each covers.
-    pub sets: [u32; Plan::MAX_OPERATORS],
-    // At least the rows of each.
-    pub rows: [u64; Plan::MAX_OPERATORS],
-    // At least the need of each.
-    pub needs: [u64; Plan::MAX_OPERATORS],
+    // What bounds each.
+    pub bounds: [Bounded; Plan::MAX_OPERATORS],
     // At least the cost so far.
     pub cost: u64,
     // The largest bound of rows so far.
@@ -52,9 +48,11 @@ impl Pile {
     {
         Pile {
             depth: 0,
-            sets: [0; Plan::MAX_OPERATORS],
-            rows: [0; Plan::MAX_OPERATORS],
-            needs: [0; Plan::MAX_OPERATORS],
+            bounds: [Bounded {
+                set: 0,
+                rows: 0,
+                need: 0,
+            }; Plan::MAX_OPERATORS],
             cost: 0,
             largest: 0,
         }
@@ -65,12 +63,7 @@ impl Pile {
         requires { (under < self.depth) × (self.depth ≤ max_operators) }
         ensures { Under self under result }
     {
-        let at = self.depth - 1 - under;
-        Bounded {
-            set: self.sets[at],
-            rows: self.rows[at],
-            need: self.needs[at],
-        }
+        self.bounds[self.depth - 1 - under]
     }
 
     // The pile after an operator of a cost, whose result is so bounded, in place of as many results as it
@@ -80,12 +73,10 @@ impl Pile {
         ensures { Put self taken b cost result }
     {
         let depth = self.depth - taken;
-        self.sets[depth] = b.set;
-        self.rows[depth] = b.rows;
-        self.needs[depth] = b.need;
+        self.bounds[depth] = b;
         self.depth = depth + 1;
-        self.cost = capped::add(self.cost, cost);
-        self.largest = capped::larger(self.largest, b.rows);
+        self.cost = self.cost.saturating_add(cost);
+        self.largest = self.largest.max(b.rows);
         self
     }
 }
@@ -98,8 +89,8 @@ fn extended(b: Bounded, set: u32, width: usize, least: usize) -> Bounded
 {
     Bounded {
         set,
-        rows: capped::times(b.rows, least as u64),
-        need: capped::add(b.need, (width + least) as u64),
+        rows: b.rows.saturating_mul(least as u64),
+        need: b.need.saturating_add((width + least) as u64),
     }
 }
 
@@ -107,7 +98,7 @@ fn extended(b: Bounded, set: u32, width: usize, least: usize) -> Bounded
 fn table(words: u64, rows: u64) -> u64
     ensures { result ≡ given (words + given (rows + given (heads rows))) }
 {
-    capped::add(words, capped::add(rows, capped::heads(rows)))
+    words.saturating_add(rows.saturating_add(capped::heads(rows)))
 }
 
 // What a join needs, of the build rows' words, the build's need, its table's words, the probe's need and a
@@ -116,10 +107,8 @@ fn join_need(words: u64, build: u64, table: u64, probe: u64, width: usize) -> u6
     requires { width ≤ 8 }
     ensures { result ≡ max (given (build + words)) (given (table + given (probe + width))) }
 {
-    capped::larger(
-        capped::add(build, words),
-        capped::add(table, capped::add(probe, width as u64)),
-    )
+    let probing = table.saturating_add(probe.saturating_add(width as u64));
+    build.saturating_add(words).max(probing)
 }
 
 // A build and a probe side joined to a set and a width.
@@ -130,10 +119,10 @@ fn joined(b: Bounded, p: Bounded, build_width: usize, set: u32, width: usize) ->
         (given (given (given (b.rows * build_width) + given (b.rows + given (heads b.rows))) + given
         (p.need + width)))) }
 {
-    let words = capped::times(b.rows, build_width as u64);
+    let words = b.rows.saturating_mul(build_width as u64);
     Bounded {
         set,
-        rows: capped::times(b.rows, p.rows),
+        rows: b.rows.saturating_mul(p.rows),
         need: join_need(words, b.need, table(words, b.rows), p.need, width),
     }
 }
@@ -166,7 +155,7 @@ fn after_extend(store: &[u32], q: Query, v: usize, pile: Pile) -> Pile
     pile.put(
         1,
         extended(b, grown, column(grown, q.vertices), p.least),
-        capped::times(b.rows, p.sum as u64),
+        b.rows.saturating_mul(p.sum as u64),
     )
 }
 
@@ -216,10 +205,8 @@ fn whole(store: &[u32], q: Query, plan: Plan) -> Pile
         × (result.depth ≤ max_operators) }
 {
     let mut pile = Pile::none();
-    let mut i = 0;
-    while i < plan.operators {
+    for i in 0..plan.operators {
         pile = after(store, q, plan.operator(i), pile);
-        i += 1;
     }
     pile
 }
@@ -243,7 +230,7 @@ pub fn answer(store: &[u32], q: Query, plan: Plan) -> BoundsAnswer
     let b = pile.under(0);
     BoundsAnswer {
         refusal: 0,
-        list_words: capped::times(q.vertices as u64, b.rows),
+        list_words: (q.vertices as u64).saturating_mul(b.rows),
         scratch_words: b.need,
         cost: pile.cost,
         largest: pile.largest,

@@ -45,13 +45,13 @@ covering l k = covers l (k / entry_span)
 -- ---- the pile
 
 abbrev pub sets_in : Pile → List ℕ
-sets_in p = stack p.depth p.sets
+sets_in p = stack p.depth (map (λ (b : Bounded). b.set) p.bounds)
 
 abbrev pub rows_in : Pile → List ℕ
-rows_in p = stack p.depth p.rows
+rows_in p = stack p.depth (map (λ (b : Bounded). b.rows) p.bounds)
 
 abbrev pub needs_in : Pile → List ℕ
-needs_in p = stack p.depth p.needs
+needs_in p = stack p.depth (map (λ (b : Bounded). b.need) p.bounds)
 
 -- The bounds that lie under others in a pile.
 pub record Under (p : Pile) (under : ℕ) (b : Bounded) : Type 0 where

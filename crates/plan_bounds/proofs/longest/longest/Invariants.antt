@@ -1,6 +1,5 @@
 -- `plan_bounds::longest::longest` meets its contract: the loop's invariant: the most so far is that of the vertices before v. A portion is no longer than its list. Assumes nothing.
 use mathlib.Core.Path.{◌≡◌}
-use Prim.Native.Nat.{◌-◌, ◌≤◌}
 use Rattle.lists.specs.Lists.{range, largest}
 use Rattle.graph.specs.Graph.{Direction, portion_length}
 use Rattle.graph.specs.Store.{graph_in}
@@ -8,7 +7,4 @@ use Rattle.adjacency.specs.Inner.Side.{side_in}
 use Rattle.plan_bounds.proofs.longest.longest.Given as goal
 
 abbrev pub invariant-loop-v : goal.invariant-loop-v
-invariant-loop-v l = (l.v ≤ l.n) × ((d : Direction) → l.side ≡ side_in d l.store → l.most ≡ largest (portion_length (graph_in l.store) d l.label) (range l.v))
-
-abbrev pub decreases-loop-v : goal.decreases-loop-v
-decreases-loop-v l = l.n - l.v
+invariant-loop-v l = (d : Direction) → l.side ≡ side_in d l.store → l.most ≡ largest (portion_length (graph_in l.store) d l.label) (range l.v)

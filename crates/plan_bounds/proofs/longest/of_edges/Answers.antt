@@ -1,7 +1,6 @@
 -- `plan_bounds::longest::of_edges` meets its contract: the loop's invariant: the portions seen are those of the first i query edges that run between v and the set. Assumes nothing.
 use mathlib.Core.Path.{◌≡◌, sym, ◌∙◌, ap}
 use mathlib.Core.Bool.{true, false}
-use Prim.Native.Nat.{◌-◌}
 use native.Mathlib.Omega.{arith}
 use borrow.Author.Rules.{rules}
 use Rattle.lists.proofs.Bits.{bit-none, bit-some}

@@ -40,4 +40,4 @@ unfolding query_in
 returns c = extended-to (graph_in c.args.store.now) (query_in c.args.q) c.args.v c.args.pile _ c.under-b.result c.extended.result _ _ _ _ c.if-pile-lt1.false
     c.under-b.ensures c.put.ensures c.of_edges-p.ensures.0 c.of_edges-p.ensures.1 (ap in_mask c.extended.ensures.0 ∙ plus-set _ _ _ c.only.ensures)
     (c.column.ensures ∙ ap (λ (m : ℕ). width c.args.q.vertices (in_mask m)) (sym c.extended.ensures.0))
-    c.extended.ensures.1 c.extended.ensures.2 c.times.ensures
+    c.extended.ensures.1 c.extended.ensures.2 c.saturating_mul.ensures

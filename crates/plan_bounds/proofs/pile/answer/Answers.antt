@@ -14,4 +14,4 @@ pub under-b-requires : goal.under-b-requires
 under-b-requires c = (c.if-pile-lt1.false, c.whole-pile.ensures.1)
 
 pub returns : goal.returns
-returns c = numbers-top _ _ _ c.whole-pile.result c.whole-pile.ensures.0 c.under-b.result _ _ c.if-pile-lt1.false c.under-b.ensures (sym (vertices-in _)) c.times.ensures
+returns c = numbers-top _ _ _ c.whole-pile.result c.whole-pile.ensures.0 c.under-b.result _ _ c.if-pile-lt1.false c.under-b.ensures (sym (vertices-in _)) c.saturating_mul.ensures

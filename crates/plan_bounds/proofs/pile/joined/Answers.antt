@@ -5,6 +5,6 @@ use Rattle.plan_bounds.proofs.pile.joined.Goals as goal
 pub returns : goal.returns
 returns c = (
   refl,
-  c.times.ensures,
-  c.join_need.ensures ∙ rw (c.table.ensures, c.times-words.ensures),
+  c.saturating_mul.ensures,
+  c.join_need.ensures ∙ rw (c.table.ensures, c.saturating_mul-words.ensures),
 )

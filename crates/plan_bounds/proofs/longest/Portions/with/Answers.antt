@@ -1,14 +1,20 @@
 -- `plan_bounds::longest::Portions::with` meets its contract (`seen_more`). Assumes nothing.
-use mathlib.Core.Path.{refl}
-use native.Mathlib.Omega.{arith}
+use mathlib.Core.Path.{◌≡◌, refl, ◌∙◌}
+use Prim.Native.Nat.{min}
 use Rattle.plan_bounds.proofs.Seeing.{seen_more}
 use Rattle.plan_bounds.proofs.longest.Portions.with.Goals as goal
-
-pub returns-then-self-eq0 : goal.returns-then-self-eq0
-returns-then-self-eq0 c = (seen_more _ _ _ (omega arith) refl (λ e. refl) (λ n. absurd (n c.if-self-eq0.true)), omega arith, refl)
-
-pub returns-then-length-self : goal.returns-then-length-self
-returns-then-length-self c = (seen_more _ _ _ refl refl (λ e. absurd (c.if-self-eq0.false e)) (λ n. omega arith), refl, refl)
+use Rattle.plan_bounds.proofs.longest.Portions.with.Goals.{then-self-eq0, else-self-eq0}
 
 pub returns : goal.returns
-returns c = (seen_more _ _ _ refl refl (λ e. absurd (c.if-self-eq0.false e)) (λ n. omega arith), refl, refl)
+returns c =
+    let first : c.args.self.count ≡ 0 → c.if-self-eq0.result ≡ c.args.length = λ z.
+    elim c.if-self-eq0.branch [
+      | then-self-eq0 w ↦ w.result-is
+      | else-self-eq0 w ↦ absurd (w.if-self-eq0.false z)
+    ] in
+    let later : (c.args.self.count ≡ 0 → ⊥) → c.if-self-eq0.result ≡ min c.args.self.least c.args.length = λ n.
+    elim c.if-self-eq0.branch [
+      | then-self-eq0 w ↦ absurd (n w.if-self-eq0.true)
+      | else-self-eq0 w ↦ w.result-is ∙ w.min.ensures
+    ] in
+    (seen_more _ _ _ refl refl first later, refl, refl)
