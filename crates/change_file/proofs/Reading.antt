@@ -8,7 +8,7 @@ use native.Mathlib.Omega.{arith}
 use lib.Dec.{eqb, ltb}
 use lib.ListN.{length}
 use borrow.Author.Tests.{ltb-true, lt-ltb, le-ltb, ltb-false, eq-eqb, ne_eqb, eqb-true}
-use Rattle.lists.specs.Lists.{bit, range, all}
+use Rattle.lists.specs.Lists.{range, all}
 use Rattle.lists.specs.Refusal.{refuse}
 use Rattle.lists.proofs.Tests.{iff, and_l, and_both, not-true, not-false, clash}
 use Rattle.lists.proofs.All.{all_append, all-at}
@@ -16,17 +16,8 @@ use Rattle.lists.proofs.Faults.{refuse-zero}
 use Rattle.packed.specs.Field.{field_at, fill_set}
 use Rattle.packed.proofs.Laws.{field-add, field_lt}
 use Rattle.graph.specs.Graph.{forward, entry, key}
-use Rattle.change_file.specs.File.{change_count, change_start, change_size, adds_in, changed_edge, change_ascends, change_fits, change_fault}
+use Rattle.change_file.specs.File.{change_count, change_start, change_size, changed_edge, change_ascends, change_fits, change_fault}
 use Rattle.change_file.specs.Inner.Reading.{Sized, change_length_fault}
-
--- A bit is 1 where the change adds.
-pub adds-field : (s : List ℕ) (i : ℕ) {r : ℕ} → r ≡ field_at s (20 + 41 * i) 1 → r ≡ bit (adds_in s i)
-adds-field s i {r} e = e ∙ go (field_at s (20 + 41 * i) 1) (field_lt s (20 + 41 * i) 1)
-  where
-    go : (b : ℕ) → b < 2 → b ≡ bit (eqb b 1)
-    go zero h = refl
-    go (suc zero) h = refl
-    go (suc (suc b)) h = absurd (omega arith)
 
 -- A change's last 24 bits are its forward entry.
 pub entry-field : (s : List ℕ) (i : ℕ) {r : ℕ} → r ≡ field_at s (37 + 41 * i) 24 → r ≡ entry forward (changed_edge s i)

@@ -4,11 +4,12 @@
 #![tactic(auto)]
 
 ghost use Rattle.std.specs.Prelude.{◌≡◌, not, suc, ◌+◌, ◌*◌, ◌≤◌, ◌<◌, length};
-ghost use Rattle.lists.specs.Lists.{bit, range, all};
+ghost use Rattle.lists.specs.Lists.{range, all};
 ghost use Rattle.lists.specs.Refusal.{refuse};
 ghost use Rattle.graph.specs.Graph.{max_graph_vertices, max_graph_edges, entry_end, forward, entry, key};
 ghost use Rattle.change_file.specs.File.{change_count, adds_in, changed_edge, change_fits, change_fault};
 ghost use Rattle.change_file.specs.Inner.Reading.{Sized, change_length_fault};
+ghost use Rattle.refusals.specs.Refusals.{fault_of};
 
 use graph::Graph;
 use packed::field;
@@ -21,12 +22,12 @@ pub fn change_count(file: &[u8]) -> usize
     field(file, 0, 20) as usize
 }
 
-// 1 where change i adds its edge, 0 where it takes it away.
-pub fn adds(file: &[u8], i: usize) -> u32
+// Whether change i adds its edge, or takes it away.
+pub fn adds(file: &[u8], i: usize) -> bool
     requires { Sized file.now × (i < change_count file.now) }
-    ensures { (result ≡ bit (adds_in file.now i)) × (result < 2) }
+    ensures { result ≡ adds_in file.now i }
 {
-    field(file, 20 + 41 * i, 1)
+    field(file, 20 + 41 * i, 1) == 1
 }
 
 pub fn source(file: &[u8], i: usize) -> u32
@@ -52,60 +53,46 @@ pub fn change_key(file: &[u8], i: usize) -> u64
     source(file, i) as u64 * Graph::ENTRY_END as u64 + forward_entry(file, i) as u64
 }
 
-// 27 where the file's length is not its own size or a fill bit is set, else 0.
-fn length_fault(file: &[u8]) -> u32
-    ensures { result ≡ change_length_fault file.now }
+// Refuses a file whose length is not its own size, or that has a fill bit set.
+fn check_length(file: &[u8]) -> Result<(), Refusal>
+    ensures { fault_of result ≡ change_length_fault file.now }
 {
     if file.len() < 3 {
-        return Refusal::CHANGES_FILE;
+        return Err(Refusal::ChangesFile);
     }
     let bits = 20 + 41 * change_count(file);
-    if file.len() != packed::bytes_for(bits) {
-        return Refusal::CHANGES_FILE;
+    if file.len() != packed::bytes_for(bits) || packed::fill_set(file, bits) {
+        return Err(Refusal::ChangesFile);
     }
-    if packed::fill_set(file, bits) {
-        return Refusal::CHANGES_FILE;
-    }
-    0
+    Ok(())
 }
 
-// 27 where an edge has a vertex outside 0 to n - 1 or label 0, or does not ascend; else 0. `least` is one
-// more than the key of the change before.
-fn edges_fault(file: &[u8], n: usize, k: usize) -> u32
+// Refuses an edge that has a vertex outside 0 to n - 1 or label 0, or does not ascend. `least` is one more than
+// the key of the change before.
+fn check_edges(file: &[u8], n: usize, k: usize) -> Result<(), Refusal>
     requires { Sized file.now × (k ≡ change_count file.now) }
-    ensures { result ≡ refuse 27 (not (all (change_fits n file.now) (range k))) }
+    ensures { fault_of result ≡ refuse 27 (not (all (change_fits n file.now) (range k))) }
 {
     let mut least = 0;
-    let mut i = 0;
-    while i < k {
+    for i in 0..k {
         let s = source(file, i);
         let e = forward_entry(file, i);
-        if n <= s as usize {
-            return Refusal::CHANGES_FILE;
-        }
-        if n <= (e % Graph::SPAN) as usize {
-            return Refusal::CHANGES_FILE;
-        }
-        if e < Graph::SPAN {
-            return Refusal::CHANGES_FILE;
+        if n <= s as usize || n <= (e % Graph::SPAN) as usize || e < Graph::SPAN {
+            return Err(Refusal::ChangesFile);
         }
         let key = change_key(file, i);
         if key < least {
-            return Refusal::CHANGES_FILE;
+            return Err(Refusal::ChangesFile);
         }
         least = key + 1;
-        i += 1;
     }
-    0
+    Ok(())
 }
 
-// 27 of a change file for a graph of n vertices, or 0.
-pub fn change_fault(file: &[u8], n: usize) -> u32
-    ensures { result ≡ change_fault n file.now }
+// Refuses a change file at fault for a graph of n vertices.
+pub fn check_changes(file: &[u8], n: usize) -> Result<(), Refusal>
+    ensures { fault_of result ≡ change_fault n file.now }
 {
-    let fault = length_fault(file);
-    if fault != 0 {
-        return fault;
-    }
-    edges_fault(file, n, change_count(file))
+    check_length(file)?;
+    check_edges(file, n, change_count(file))
 }

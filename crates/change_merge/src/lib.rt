@@ -129,10 +129,8 @@ fn move_offsets(from: &[u32], count: usize, less: u32, more: u32, to: &mut [u32]
         × (get_or from.now i 0 - less + more < 4294967296)) }
     ensures { Moved from.now count less more to.old to.new }
 {
-    let mut i = 0;
-    while i < count {
+    for i in 0..count {
         to[i] = from[i] - less + more;
-        i += 1;
     }
 }
 

@@ -1,6 +1,6 @@
 -- Whether an edge is present, by the list of its source; and the changes one by one. Assumes nothing.
 use mathlib.Core.Path.{◌≡◌, refl, sym, ◌∙◌, ap, ap₂}
-use mathlib.Core.Bool.{Bool, true, false, cond, not, ◌&&◌}
+use mathlib.Core.Bool.{Bool, true, false, beq, cond, not, ◌&&◌}
 use mathlib.Core.List.{List, [], ◌∷◌, map, map-map}
 use Prim.Native.Nat.{ℕ, suc, ◌+◌, ◌<◌}
 use native.Mathlib.Numerals.{add-one}
@@ -120,27 +120,27 @@ module _ {old : List ℕ} {n at : ℕ} {s : List ℕ} {k : ℕ} (h : Editable ol
     looked-ascends e = ap ascending e ∙ lookup-ascends old n at v looked
 
     -- An edge is present where its entry stands in the list that is looked up.
-    pub stands-there : {xs : List ℕ} {e p : ℕ} → xs ≡ list_on old n at v → e ≡ entry forward (changed_edge s i) → p ≡ bit (any (eqb e) xs)
-        → p ≡ bit (any (λ (x : ℕ). eqb x (key forward (changed_edge s i))) (keys_of (graph_in old)))
+    pub stands-there : {xs : List ℕ} {e : ℕ} {p : Bool} → xs ≡ list_on old n at v → e ≡ entry forward (changed_edge s i) → p ≡ any (eqb e) xs
+        → p ≡ any (λ (x : ℕ). eqb x (key forward (changed_edge s i))) (keys_of (graph_in old))
     stands-there {xs} {e} x q p =
         let same : any (eqb e) xs ≡ any (λ (y : ℕ). eqb y (key forward (changed_edge s i))) (keys_of (graph_in old)) =
         ap₂ (λ (e : ℕ) (l : List ℕ). any (eqb e) l) q (x ∙ lookup-list old n at v looked forward h.begins ∙ ap (list_of forward (graph_in old)) its)
         ∙ sym (present-listed (graph_in old) (graph-formed old h.accepted) (changed_edge s i)
         (rw (h.vertices ∙ store-vertices old h.accepted) at (change-fits n s h.fits i below))) in
-        p ∙ ap bit same
+        p ∙ same
 
--- A change applies where its bit is not that of its edge's presence.
-applies-bits : (a b : Bool) → (bit b ≡ bit a → ⊥) → cond a (not b) b ≡ true
-applies-bits true true n = absurd (n refl)
-applies-bits true false n = refl
-applies-bits false true n = refl
-applies-bits false false n = absurd (n refl)
+-- A change applies where it adds an edge that is not there, or takes one that is.
+other-applies : (a b : Bool) → beq b a ≡ false → cond a (not b) b ≡ true
+other-applies true true n = cc
+other-applies true false n = refl
+other-applies false true n = refl
+other-applies false false n = cc
 
-fails-bits : (a b : Bool) → bit b ≡ bit a → cond a (not b) b ≡ false
-fails-bits true true n = refl
-fails-bits true false n = absurd (omega arith)
-fails-bits false true n = absurd (omega arith)
-fails-bits false false n = refl
+same-fails : (a b : Bool) → beq b a ≡ true → cond a (not b) b ≡ false
+same-fails true true e = refl
+same-fails true false e = cc
+same-fails false true e = cc
+same-fails false false e = refl
 
 pub record Applying (g : Graph) (s : List ℕ) (i : ℕ) : Type 0 where
   pub so_far : all (λ (j : ℕ). applies (keys_of g) (change_at s j)) (range i) ≡ true
@@ -149,27 +149,27 @@ pub applying-none : (g : Graph) (s : List ℕ) → Applying g s 0
 unfolding all range
 applying-none g s = record { so_far = refl }
 
-pub applying-more : {g : Graph} {s : List ℕ} {i : ℕ} {p q : ℕ} → Applying g s i
-    → p ≡ bit (any (λ (x : ℕ). eqb x (key forward (changed_edge s i))) (keys_of g)) → q ≡ bit (adds_in s i)
-    → (p ≡ q → ⊥) → Applying g s (i + 1)
+pub applying-more : {g : Graph} {s : List ℕ} {i : ℕ} {p q : Bool} → Applying g s i
+    → p ≡ any (λ (x : ℕ). eqb x (key forward (changed_edge s i))) (keys_of g) → q ≡ adds_in s i
+    → beq p q ≡ false → Applying g s (i + 1)
 unfolding all range
 applying-more {g} {s} {i} h a b n =
     record {
       so_far =
           rw (add-one i)
           (all_append (λ (j : ℕ). applies (keys_of g) (change_at s j)) (range i) (i ∷ [])
-          ∙ and_both _ _ h.so_far (and_both (applies (keys_of g) (change_at s i)) true (applies-bits (adds_in s i) (any (λ (x : ℕ). eqb x (key forward (changed_edge s i))) (keys_of g)) (λ e. n (a ∙ e ∙ sym b))) refl));
+          ∙ and_both _ _ h.so_far (and_both (applies (keys_of g) (change_at s i)) true (other-applies (adds_in s i) (any (λ (x : ℕ). eqb x (key forward (changed_edge s i))) (keys_of g)) (rw (a, b) at n)) refl));
     }
 
-pub applying-stop : (g : Graph) (s : List ℕ) {i : ℕ} {p q : ℕ} → i < change_count s → p ≡ bit (any (λ (x : ℕ). eqb x (key forward (changed_edge s i))) (keys_of g)) → q ≡ bit (adds_in s i)
-    → p ≡ q → 28 ≡ edit_fault g (changes_of s)
+pub applying-stop : (g : Graph) (s : List ℕ) {i : ℕ} {p q : Bool} → i < change_count s → p ≡ any (λ (x : ℕ). eqb x (key forward (changed_edge s i))) (keys_of g) → q ≡ adds_in s i
+    → beq p q ≡ true → 28 ≡ edit_fault g (changes_of s)
 unfolding edit_fault changes_of
 applying-stop g s {i} l a b n = go (all (applies (keys_of g)) (changes_of s)) refl
   where
     go : (t : Bool) → all (applies (keys_of g)) (changes_of s) ≡ t → 28 ≡ refuse 28 (not t)
     go true t =
         clash (all-at (λ (j : ℕ). applies (keys_of g) (change_at s j)) (change_count s) (sym (all_map (applies (keys_of g)) (change_at s) (range (change_count s))) ∙ t) i l)
-        (fails-bits (adds_in s i) (any (λ (x : ℕ). eqb x (key forward (changed_edge s i))) (keys_of g)) (sym a ∙ n ∙ b))
+        (same-fails (adds_in s i) (any (λ (x : ℕ). eqb x (key forward (changed_edge s i))) (keys_of g)) (rw (a, b) at n))
     go false t = refl
 
 pub applying-all : {g : Graph} {s : List ℕ} {i : ℕ} → Applying g s i → i ≡ change_count s → 0 ≡ edit_fault g (changes_of s)

@@ -1,12 +1,13 @@
 // Refusal 28: adding a present edge or taking an absent one.
 ghost use Rattle.std.specs.Prelude.{◌≡◌, true, ◌≤◌, ◌<◌, eqb};
-ghost use Rattle.lists.specs.Lists.{bit, any, ascending, range, count_if};
+ghost use Rattle.lists.specs.Lists.{any, ascending, range, count_if};
 ghost use Rattle.search.specs.Inner.Search.{first_from};
 ghost use Rattle.graph.specs.Store.{graph_in};
 ghost use Rattle.change_file.specs.File.{change_count, adds_in, changes_of};
 ghost use Rattle.changes.specs.Edit.{edit_fault};
 ghost use Rattle.change_file.specs.Inner.Reading.{Sized};
 ghost use Rattle.changes.specs.Inner.Edits.{Editable};
+ghost use Rattle.refusals.specs.Refusals.{fault_of};
 
 use adjacency::neighbours;
 use refusals::Refusal;
@@ -20,50 +21,36 @@ fn place(list: &[u32], x: u32, hint: usize) -> usize
     requires { ascending list.now ≡ true }
     ensures { result ≡ first_from list.now 0 x }
 {
-    if hint == 0 {
-        return lower_bound(list, x);
-    }
-    if list.len() < hint {
-        return lower_bound(list, x);
-    }
-    if x <= list[hint - 1] {
+    if hint == 0 || list.len() < hint || x <= list[hint - 1] {
         return lower_bound(list, x);
     }
     walk_up(list, hint, x)
 }
 
-// 1 where x stands at its place in an ascending list, else 0.
-fn stands(list: &[u32], x: u32, place: usize) -> u32
+// Whether x stands at its place in an ascending list.
+fn stands(list: &[u32], x: u32, place: usize) -> bool
     requires { (ascending list.now ≡ true) × (place ≡ first_from list.now 0 x) }
-    ensures { result ≡ bit (any (eqb x) list.now) }
+    ensures { result ≡ any (eqb x) list.now }
 {
-    if list.len() <= place {
-        return 0;
-    }
-    if list[place] == x {
-        return 1;
-    }
-    0
+    place < list.len() && list[place] == x
 }
 
-// 28 where a change adds a present edge or takes an absent one, else 0. The forward side of the old store
-// begins at a word.
-pub fn edits_fault(old: &[u32], n: usize, at: usize, file: &[u8], k: usize) -> u32
+// Refuses a change that adds a present edge or takes an absent one. The forward side of the old store begins at
+// a word.
+pub fn check_edits(old: &[u32], n: usize, at: usize, file: &[u8], k: usize) -> Result<(), Refusal>
     requires { Editable old.now n at file.now k }
-    ensures { result ≡ edit_fault (graph_in old.now) (changes_of file.now) }
+    ensures { fault_of result ≡ edit_fault (graph_in old.now) (changes_of file.now) }
 {
     let mut hint = 0;
-    let mut i = 0;
-    while i < k {
+    for i in 0..k {
         let list = neighbours(old, n, at, change_file::source(file, i) as usize);
         let e = change_file::forward_entry(file, i);
         hint = place(list, e, hint);
         if stands(list, e, hint) == change_file::adds(file, i) {
-            return Refusal::CHANGES_EDGE;
+            return Err(Refusal::ChangesEdge);
         }
-        i += 1;
     }
-    0
+    Ok(())
 }
 
 // How many of the changes add.
@@ -72,10 +59,8 @@ pub fn additions(file: &[u8], k: usize) -> usize
     ensures { (result ≡ count_if (adds_in file.now) (range k)) × (result ≤ k) }
 {
     let mut sum = 0;
-    let mut i = 0;
-    while i < k {
-        sum += change_file::adds(file, i) as usize;
-        i += 1;
+    for i in 0..k {
+        sum += usize::from(change_file::adds(file, i));
     }
     sum
 }

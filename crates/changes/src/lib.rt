@@ -9,6 +9,7 @@ ghost use Rattle.graph.specs.Graph.{max_graph_edges};
 ghost use Rattle.change_file.specs.File.{change_count, adds_in};
 ghost use Rattle.changes.specs.Edit.{apply_fault, apply_answer, changed_store};
 ghost use Rattle.change_file.specs.Inner.Reading.{Sized};
+ghost use Rattle.refusals.specs.Refusals.{fault_of};
 
 use graph::Graph;
 use load::Loaded;
@@ -26,33 +27,24 @@ fn edited_edges(file: &[u8], k: usize, m: usize) -> usize
     m + 2 * edits::additions(file, k) - k
 }
 
-// The first refusal of an old store, a change file and a new store of so many words, or 0.
-fn apply_fault(old: &[u32], file: &[u8], room: usize) -> u32
-    ensures { result ≡ apply_fault old.now file.now room }
+// Refuses the first fault of an old store, a change file and a new store of so many words.
+fn check_apply(old: &[u32], file: &[u8], room: usize) -> Result<(), Refusal>
+    ensures { fault_of result ≡ apply_fault old.now file.now room }
 {
-    let damaged = store_check::store_fault(old);
-    if damaged != 0 {
-        return damaged;
-    }
+    store_check::check_store(old)?;
     let g = Graph::of_store(old);
     let n = g.vertices;
-    let misread = change_file::change_fault(file, n);
-    if misread != 0 {
-        return misread;
-    }
+    change_file::check_changes(file, n)?;
     let k = change_file::change_count(file);
-    let misfit = edits::edits_fault(old, n, 2 + 2 * n, file, k);
-    if misfit != 0 {
-        return misfit;
-    }
+    edits::check_edits(old, n, 2 + 2 * n, file, k)?;
     let m = edited_edges(file, k, g.edges);
     if Graph::MAX_EDGES < m {
-        return Refusal::CHANGES_MANY;
+        return Err(Refusal::ChangesMany);
     }
     if room < 4 + 4 * n + 2 * m {
-        return Refusal::STORE_SMALL;
+        return Err(Refusal::StoreSmall);
     }
-    0
+    Ok(())
 }
 
 // Answered as by Load: the refusal, with the new store untouched; or the counts of the edited graph, with its
@@ -63,22 +55,23 @@ pub fn apply_changes(old: &[u32], file: &[u8], store: &mut [u32]) -> Loaded
     ensures words { store.new ≡ changed_store old.now file.now
         store.old }
 {
-    let refusal = apply_fault(old, file, store.len());
-    if refusal != 0 {
-        return Loaded {
-            refusal,
+    match check_apply(old, file, store.len()) {
+        Err(refusal) => Loaded {
+            refusal: refusal.number(),
             vertices: 0,
             edges: 0,
-        };
-    }
-    let g = Graph::of_store(old);
-    let n = g.vertices;
-    let k = change_file::change_count(file);
-    let m = edited_edges(file, k, g.edges);
-    fill::fill(old, n, file, k, m, store);
-    Loaded {
-        refusal: 0,
-        vertices: n,
-        edges: m,
+        },
+        Ok(()) => {
+            let g = Graph::of_store(old);
+            let n = g.vertices;
+            let k = change_file::change_count(file);
+            let m = edited_edges(file, k, g.edges);
+            fill::fill(old, n, file, k, m, store);
+            Loaded {
+                refusal: 0,
+                vertices: n,
+                edges: m,
+            }
+        }
     }
 }

@@ -1,3 +1,2 @@
--- Laws of copying word by word.
-pub mod Copying
+-- Laws of words that are zeros.
 pub mod Zeros

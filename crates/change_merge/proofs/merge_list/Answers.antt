@@ -1,7 +1,6 @@
 -- `change_merge::merge_list` meets its contract. Assumes nothing.
 use native.Mathlib.Omega.{arith}
 use mathlib.Core.Path.{◌≡◌, sym, ◌∙◌}
-use Prim.Native.Nat.{◌-◌}
 use lib.ListN.{length, length-drop}
 use Rattle.lists.proofs.Parts.{rest_at}
 use Rattle.change_merge.specs.Inner.Merge.{side_keys}

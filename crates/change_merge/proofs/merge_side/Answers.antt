@@ -1,6 +1,6 @@
 -- `change_merge::merge_side` meets its contract. Assumes nothing.
 use mathlib.Core.Path.{◌≡◌, sym, ◌∙◌}
-use Prim.Native.Nat.{◌+◌, ◌-◌, ◌<◌}
+use Prim.Native.Nat.{◌+◌, ◌<◌}
 use native.Mathlib.Omega.{arith}
 use lib.ListN.{length, set}
 use Rattle.change_merge.specs.Inner.Merge.{entries_of, side_keys, keys_on, Fitting}

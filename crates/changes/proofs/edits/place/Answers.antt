@@ -5,15 +5,6 @@ use Prim.Native.Nat.{◌-◌}
 use Rattle.search.proofs.Laws.{first_on, below-first}
 use Rattle.changes.proofs.edits.place.Goals as goal
 
-pub returns-then-hint-eq0 : goal.returns-then-hint-eq0
-returns-then-hint-eq0 c = c.lower_bound.ensures
-
-pub returns-then-list-hint : goal.returns-then-list-hint
-returns-then-list-hint c = c.lower_bound-then-list-hint.ensures
-
-pub returns-then-x-list : goal.returns-then-x-list
-returns-then-x-list c = c.lower_bound-then-x-list.ensures
-
 pub returns : goal.returns
 returns c = let a = c.args in
     c.walk_up.ensures

@@ -1,13 +1,16 @@
 -- `changes::edits::stands` meets its contract. Assumes nothing.
+use mathlib.Core.Path.{sym, ◌∙◌}
+use Prim.Native.Nat.{zero-le}
 use native.Mathlib.Omega.{arith}
-use Rattle.search.proofs.Laws.{first_found, first_absent}
+use lib.ListN.{length}
+use borrow.Author.Tests.{lt-ltb, le-ltb}
+use Rattle.search.proofs.Laws.{first_any}
 use Rattle.changes.proofs.edits.stands.Goals as goal
 
-pub returns-then-list-place : goal.returns-then-list-place
-returns-then-list-place c = rw (first_absent _ c.requires.0 0 _ c.requires.1 (omega arith) (λ l e. omega arith))
+pub returns-then-place-list : goal.returns-then-place-list
+returns-then-place-list c = let a = c.args in
+    sym (first_any a.list.now c.requires.0 0 a.x zero-le ∙ rw (← c.requires.1, lt-ltb a.place (length a.list.now) (omega arith)))
 
-pub returns-then-list-place-2 : goal.returns-then-list-place-2
-returns-then-list-place-2 c = rw (first_found _ c.requires.0 0 _ c.requires.1 (omega arith) c.if-list-place-2.true)
-
-pub returns : goal.returns
-returns c = rw (first_absent _ c.requires.0 0 _ c.requires.1 (omega arith) (λ l e. c.if-list-place-2.false e))
+pub returns-else-place-list : goal.returns-else-place-list
+returns-else-place-list c = let a = c.args in
+    sym (first_any a.list.now c.requires.0 0 a.x zero-le ∙ rw (← c.requires.1, le-ltb a.place (length a.list.now) (omega arith)))

@@ -1,12 +1,10 @@
--- `changes::edits::edits_fault` meets its contract. Assumes nothing.
+-- `changes::edits::check_edits` meets its contract. Assumes nothing.
 use native.Mathlib.Omega.{arith}
-use Prim.Native.Nat.{◌-◌}
-use borrow.Author.Rules.{rules}
 use Rattle.changes.proofs.Present.{editable-sized, looked-within, looked-ascends, stands-there, applying-none, applying-more, applying-stop, applying-all}
-use Rattle.changes.proofs.edits.edits_fault.Goals as goal
+use Rattle.changes.proofs.edits.check_edits.Goals as goal
 
 pub loop-i-init : goal.loop-i-init
-loop-i-init c = (search rules, applying-none _ _)
+loop-i-init c = applying-none _ _
 
 pub source-requires : goal.source-requires
 source-requires c = (editable-sized c.requires, omega arith)
@@ -27,10 +25,10 @@ pub adds-requires : goal.adds-requires
 adds-requires c = (editable-sized c.requires, omega arith)
 
 pub returns-then-stands-adds : goal.returns-then-stands-adds
-returns-then-stands-adds c = applying-stop _ _ (omega arith) (stands-there c.requires c.loop-i-test.true c.source.ensures.0 c.neighbours-list.ensures c.forward_entry-e.ensures.0 c.stands.ensures) c.adds.ensures.0 c.if-stands-adds.true
+returns-then-stands-adds c = applying-stop _ _ (omega arith) (stands-there c.requires c.loop-i-test.true c.source.ensures.0 c.neighbours-list.ensures c.forward_entry-e.ensures.0 c.stands.ensures) c.adds.ensures c.if-stands-adds.true
 
 pub loop-i-preserved : goal.loop-i-preserved
-loop-i-preserved c = (search rules, applying-more c.loop-i.invariant.1 (stands-there c.requires c.loop-i-test.true c.source.ensures.0 c.neighbours-list.ensures c.forward_entry-e.ensures.0 c.stands.ensures) c.adds.ensures.0 c.if-stands-adds.false)
+loop-i-preserved c = applying-more c.loop-i.invariant (stands-there c.requires c.loop-i-test.true c.source.ensures.0 c.neighbours-list.ensures c.forward_entry-e.ensures.0 c.stands.ensures) c.adds.ensures c.if-stands-adds.false
 
 pub returns : goal.returns
-returns c = applying-all c.loop-i.invariant.1 (omega arith)
+returns c = applying-all c.loop-i.invariant (omega arith)
