@@ -5,17 +5,24 @@
 // theirs. Matches are judged by `judge`.
 #![tactic(auto)]
 
-ghost use Rattle.std.specs.Prelude.{◌≤◌, ◌<◌, length};
+ghost use Rattle.std.specs.Prelude.{◌<◌};
 
 use std::io;
 
 const WORDS: usize = 952;
 
-const LISTS: usize = 7;
+const BYTES: usize = 4864;
 
-const ROWS: [usize; LISTS] = [0, 1, 58, 59, 60, 118, 119];
-
-const WIDTHS: [usize; LISTS] = [2, 8, 2, 8, 2, 8, 2];
+// The widths of the lists, and their rows.
+const LISTS: [(usize, usize); 7] = [
+    (2, 0),
+    (8, 1),
+    (2, 58),
+    (8, 59),
+    (2, 60),
+    (8, 118),
+    (2, 119),
+];
 
 // The words of 119 rows of 8, of one to five digits, the first of them the largest there may be, and one put
 // in place of another.
@@ -23,10 +30,8 @@ fn words(at: usize, word: u32) -> [u32; WORDS]
     requires { at < 952 }
 {
     let mut list = [65535u32; WORDS];
-    let mut i = 1;
-    while i < WORDS {
+    for i in 1..WORDS {
         list[i] = (i * 331 % 65536) as u32;
-        i += 1;
     }
     list[at] = word;
     list
@@ -42,15 +47,14 @@ fn show(
     bytes: &mut [u8],
 ) -> io::Result<usize> {
     let answer = sheet::page(list, n, rows, page, bytes);
-    rt.print(answer.refusal as u64)?;
-    rt.write_all(b" ")?;
-    rt.print(answer.pages as u64)?;
-    rt.write_all(b"\n")?;
-    if answer.refusal == 0 {
+    let refusal = answer.refusal;
+    let pages = answer.pages;
+    println!(rt; "{refusal} {pages}")?;
+    if refusal == 0 {
         rt.write_all(bytes)?;
-        rt.write_all(b"\n")?;
+        println!(rt; "")?;
     }
-    Ok(answer.pages)
+    Ok(pages)
 }
 
 // The pages of a list: the first, then from the last down.
@@ -61,10 +65,9 @@ fn show_pages(
     rows: usize,
     bytes: &mut [u8],
 ) -> io::Result<()> {
-    let mut page = show(rt, list, n, rows, 1, bytes)?;
-    while 1 < page {
+    let pages = show(rt, list, n, rows, 1, bytes)?;
+    for page in (2..=pages).rev() {
         show(rt, list, n, rows, page, bytes)?;
-        page -= 1;
     }
     Ok(())
 }
@@ -82,9 +85,7 @@ fn show_refused(rt: &impl Print, list: &[u32], bytes: &mut [u8]) -> io::Result<(
 }
 
 // A page in one byte too few.
-fn show_short(rt: &impl Print, list: &[u32], bytes: &mut [u8]) -> io::Result<()>
-    requires { 4859 ≤ length bytes.old }
-{
+fn show_short(rt: &impl Print, list: &[u32], bytes: &mut [u8; BYTES]) -> io::Result<()> {
     show(rt, list, 8, 119, 3, &mut bytes[..4859])?;
     Ok(())
 }
@@ -94,25 +95,17 @@ fn show_short(rt: &impl Print, list: &[u32], bytes: &mut [u8]) -> io::Result<()>
 fn show_large(rt: &impl Print, bytes: &mut [u8]) -> io::Result<()> {
     let list = words(236, 65536);
     show(rt, &list, 2, 119, 1, bytes)?;
-    show(rt, &list, 2, 119, 0, &mut bytes[..0])?;
+    show(rt, &list, 2, 119, 0, &mut [])?;
     show(rt, &list, 2, 118, 2, bytes)?;
     Ok(())
 }
 
-// The pages of all lists.
-fn show_lists(rt: &impl Print, list: &[u32], bytes: &mut [u8]) -> io::Result<()> {
-    let mut k = 0;
-    while k < LISTS {
-        show_pages(rt, list, WIDTHS[k], ROWS[k], bytes)?;
-        k += 1;
-    }
-    Ok(())
-}
-
 fn main(rt: HostRuntime) -> io::Result<()> {
-    let mut bytes = [63u8; 4864];
+    let mut bytes = [63u8; BYTES];
     let list = words(0, 65535);
-    show_lists(&rt, &list, &mut bytes)?;
+    for (n, rows) in LISTS {
+        show_pages(&rt, &list, n, rows, &mut bytes)?;
+    }
     show_refused(&rt, &list, &mut bytes)?;
     show_short(&rt, &list, &mut bytes)?;
     show_large(&rt, &mut bytes)
