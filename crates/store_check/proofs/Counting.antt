@@ -1,18 +1,18 @@
 -- What it says of a store that its counts fit. Assumes nothing.
-use mathlib.Core.Path.{◌≡◌, sym, subst}
-use mathlib.Core.Bool.{true}
+use mathlib.Core.Path.{◌≡◌, sym, ◌∙◌, subst}
+use mathlib.Core.Bool.{Bool, true, false}
 use mathlib.Core.List.{List}
 use Prim.Native.Nat.{ℕ, ◌+◌, ◌≤◌, ◌<◌}
 use native.Mathlib.Omega.{arith}
+use lib.Dec.{leb}
 use lib.ListN.{length}
 use borrow.Author.Tests.{ltb-true, lt-ltb, leb-true, le-leb}
 use Rattle.lists.proofs.Tests.{and_l, and_r, fails}
 use Rattle.graph.specs.Graph.{forward, backward}
 use Rattle.graph.specs.Store.{used_words}
 use Rattle.adjacency.specs.Inner.Side.{vertices_in, edges_in, side_in}
-use Rattle.store_reverse.specs.Inner.Check.{unless, counts_fit, Counted}
+use Rattle.store_reverse.specs.Inner.Check.{counts_fit, Counted}
 use Rattle.adjacency.proofs.Accepted.{side-ends}
-use Rattle.store_reverse.proofs.Loops.{refused, answer-passes}
 
 ruleset conj = (and_l, and_r)
 
@@ -43,11 +43,17 @@ fit-counts store k =
     )
 
 -- The answers of the test.
-pub counts-passed : (store : List ℕ) {r : ℕ} → r ≡ unless (counts_fit store) → r ≡ 0 → Counts store
-counts-passed store e z = counts-fit store (answer-passes (counts_fit store) e z)
+pub counts-passed : (store : List ℕ) {r : Bool} → r ≡ counts_fit store → r ≡ true → Counts store
+counts-passed store e z = counts-fit store (sym e ∙ z)
 
-pub counts-refused : (store : List ℕ) → (Counts store → ⊥) → 19 ≡ unless (counts_fit store)
-counts-refused store f = refused (fails (counts_fit store) (λ t. f (counts-fit store t)))
+-- Where the counts are within their limits, the words decide.
+pub counts-decide : (store : List ℕ) {words : ℕ} → words ≡ used_words (vertices_in store) (edges_in store) → 2 ≤ length store → vertices_in store < 65536
+    → edges_in store < 1048576 → leb words (length store) ≡ counts_fit store
+unfolding counts_fit
+counts-decide store e a b c = rw (e, le-leb 2 (length store) a, lt-ltb (vertices_in store) 65536 b, lt-ltb (edges_in store) 1048576 c)
+
+pub counts-refused : (store : List ℕ) → (Counts store → ⊥) → false ≡ counts_fit store
+counts-refused store f = sym (fails (counts_fit store) (λ t. f (counts-fit store t)))
 
 module _ {store : List ℕ} {n m one two : ℕ} (k : Counted store n m one two) where
   -- What holds of the counts and of where the sides begin holds of what stands for them.

@@ -13,7 +13,7 @@ use Rattle.graph.specs.Store.{graph_in, store_of, store_size, well_formed, store
 use Rattle.adjacency.specs.Inner.Side.{Within, vertices_in, edges_in, side_in}
 use Rattle.store_reverse.specs.Inner.Check.{unless, counts_fit, labels_fit, days_fit, offsets_fit, offsets_on, side_fits, side_good, GoodSide, side_reversed, Counted}
 use Rattle.store_check.proofs.Counting.{counted-as, counted-few, counted-edges, forward-room, backward-room}
-use Rattle.store_reverse.proofs.Loops.{answer-hands, answer-passes}
+use Rattle.store_reverse.proofs.Loops.{fails-with}
 use Rattle.store_reverse.proofs.Offsets.{offsets-rising, offsets-within}
 use Rattle.store_step.specs.Inner.Walk.{sides_agree, Decides, BothRise}
 use Rattle.store_step.proofs.Agreeing.{agree, agreed}
@@ -24,29 +24,32 @@ use Rattle.store_check.proofs.Tested.{accepted-passed}
 
 -- The part of a store that holds a side's offsets.
 pub offsets-part : (store : List ℕ) (n m side : ℕ)
-    → unless (offsets_fit m (take (side + n + 1 - side) (drop side store))) ≡ unless (offsets_fit m (offsets_on store n side))
+    → offsets_fit m (take (side + n + 1 - side) (drop side store)) ≡ offsets_fit m (offsets_on store n side)
 offsets-part store n m side =
-    ap (λ (k : ℕ). unless (offsets_fit m (take k (drop side store)))) (let i : side + n + 1 - side ≡ suc n = omega arith in i)
+    ap (λ (k : ℕ). offsets_fit m (take k (drop side store))) (let i : side + n + 1 - side ≡ suc n = omega arith in i)
 
 -- ---- the labels and the days
 
 -- The parts of a store that hold them.
 module _ (store : List ℕ) {n days : ℕ} (named : n ≡ vertices_in store) (at : days ≡ 2 + n) where
-  pub labels-part : unless (all (λ (l : ℕ). ltb l 65536) (take (days - 2) (drop 2 store))) ≡ unless (labels_fit store)
+  pub labels-part : all (λ (l : ℕ). ltb l 65536) (take (days - 2) (drop 2 store)) ≡ labels_fit store
   unfolding labels_fit
   labels-part =
-      ap (λ (k : ℕ). unless (all (λ (l : ℕ). ltb l 65536) (take k (drop 2 store)))) (let e : days - 2 ≡ vertices_in store = omega arith in e)
+      ap (λ (k : ℕ). all (λ (l : ℕ). ltb l 65536) (take k (drop 2 store))) (let e : days - 2 ≡ vertices_in store = omega arith in e)
 
-  pub days-part : unless (all (λ (t : ℕ). ltb t 65536) (take (days + n - days) (drop days store))) ≡ unless (days_fit store)
+  pub days-part : all (λ (t : ℕ). ltb t 65536) (take (days + n - days) (drop days store)) ≡ days_fit store
   unfolding days_fit
   days-part =
-      ap₂ (λ (k d : ℕ). unless (all (λ (t : ℕ). ltb t 65536) (take k (drop d store))))
+      ap₂ (λ (k d : ℕ). all (λ (t : ℕ). ltb t 65536) (take k (drop d store)))
       (let e : days + n - days ≡ vertices_in store = omega arith in e) (at ∙ ap (λ (k : ℕ). 2 + k) named)
 
--- Where the labels fit, the days decide.
-pub days-decide : (store : List ℕ) {r : ℕ} → r ≡ unless (labels_fit store) → r ≡ 0
-    → unless (days_fit store) ≡ unless (labels_fit store && days_fit store)
-days-decide store e z = ap (λ (b : Bool). unless (b && days_fit store)) (sym (answer-passes (labels_fit store) e z))
+-- ---- two tests
+
+pub goes-on : (a b : Bool) {r s : Bool} → r ≡ a → r ≡ true → s ≡ b → s ≡ (a && b)
+goes-on a b e z f = f ∙ ap (λ (t : Bool). t && b) (sym (sym e ∙ z))
+
+pub stops-at : (a b : Bool) {r : Bool} → r ≡ a → r ≡ false → false ≡ (a && b)
+stops-at a b e z = ap (λ (t : Bool). t && b) (sym (sym e ∙ z))
 
 -- ---- the whole
 
@@ -86,52 +89,42 @@ module _ {store : List ℕ} {n m one two : ℕ} (k : Counted store n m one two) 
   at-passed : (labels_fit store && days_fit store) ≡ true → PassedAt store n m one two → Passed store
   at-passed f = counted-as k (λ (a b c d : ℕ). PassedAt store a b c d → Passed store) (all-passed k.counts f)
 
--- An answer other than 0 to a test that every accepted store passes is the refusal.
-refuses : (store : List ℕ) (b : Bool) {r : ℕ} → r ≡ unless b → (r ≡ 0 → ⊥) → (Passed store → b ≡ true) → r ≡ store_fault store
+-- A test that fails though every accepted store passes it refuses the store.
+refuses : (store : List ℕ) (b : Bool) {r : Bool} → r ≡ b → r ≡ false → (Passed store → b ≡ true) → 19 ≡ store_fault store
 unfolding store_fault
 refuses store b e h f =
-    answer-hands b (well_formed (graph_in store) && same (take (store_size (graph_in store)) store) (store_of (graph_in store))) e h
-    (λ t. f (accepted-passed store (ap unless t)))
+    ap unless
+    (fails-with b (well_formed (graph_in store) && same (take (store_size (graph_in store)) store) (store_of (graph_in store))) e h
+    (λ t. f (accepted-passed store (ap unless t))))
 
 -- The answer to the last test is the refusal.
 decides : (store : List ℕ) (b : Bool) {r : ℕ} → r ≡ unless b → (Passed store → b ≡ true) → (b ≡ true → Passed store) → r ≡ store_fault store
 decides store true e f g = e ∙ sym (passed-accepted store (g refl))
-decides store false {r} e f g = refuses store false e (λ z. omega arith) f
+decides store false e f g = e ∙ refuses store false refl refl f
 
-pub counts-refuse : (store : List ℕ) {r : ℕ} → r ≡ unless (counts_fit store) → (r ≡ 0 → ⊥) → r ≡ store_fault store
+pub counts-refuse : (store : List ℕ) {r : Bool} → r ≡ counts_fit store → r ≡ false → 19 ≡ store_fault store
 counts-refuse store e h = refuses store (counts_fit store) e h (λ p. p.counts)
 
-pub vertices-refuse : (store : List ℕ) {r : ℕ} → r ≡ unless (labels_fit store && days_fit store) → (r ≡ 0 → ⊥) → r ≡ store_fault store
+pub vertices-refuse : (store : List ℕ) {r : Bool} → r ≡ (labels_fit store && days_fit store) → r ≡ false → 19 ≡ store_fault store
 vertices-refuse store e h =
     refuses store (labels_fit store && days_fit store) e h (λ p. and_both (labels_fit store) (days_fit store) p.labels p.days)
 
-pub vertices-pass : (store : List ℕ) {r : ℕ} → r ≡ unless (labels_fit store && days_fit store) → r ≡ 0
-    → (labels_fit store && days_fit store) ≡ true
-vertices-pass store e z = answer-passes (labels_fit store && days_fit store) e z
-
--- The answers in turn: where one is not 0 it is the refusal, and where it is 0 its test is passed.
-module _ {store : List ℕ} {n m one two : ℕ} (k : Counted store n m one two) {r : ℕ} where
-  pub ahead-refuses : r ≡ unless (offsets_fit m (offsets_on store n one)) → (r ≡ 0 → ⊥) → r ≡ store_fault store
+-- The tests in turn: one that fails refuses the store.
+module _ {store : List ℕ} {n m one two : ℕ} (k : Counted store n m one two) {r : Bool} where
+  pub ahead-refuses : r ≡ offsets_fit m (offsets_on store n one) → r ≡ false → 19 ≡ store_fault store
   ahead-refuses e h =
       refuses store (offsets_fit m (offsets_on store n one)) e h
       (λ p. and_l (offsets_fit m (offsets_on store n one)) (side_fits store n one) (passed-at k p).there)
 
-  pub back-refuses : r ≡ unless (offsets_fit m (offsets_on store n two)) → (r ≡ 0 → ⊥) → r ≡ store_fault store
+  pub back-refuses : r ≡ offsets_fit m (offsets_on store n two) → r ≡ false → 19 ≡ store_fault store
   back-refuses e h =
       refuses store (offsets_fit m (offsets_on store n two)) e h
       (λ p. and_l (offsets_fit m (offsets_on store n two)) (side_fits store n two) (passed-at k p).back)
 
-  pub lists-refuse : r ≡ unless (side_fits store n two) → (r ≡ 0 → ⊥) → r ≡ store_fault store
+  pub lists-refuse : r ≡ side_fits store n two → r ≡ false → 19 ≡ store_fault store
   lists-refuse e h =
       refuses store (side_fits store n two) e h
       (λ p. and_r (offsets_fit m (offsets_on store n two)) (side_fits store n two) (passed-at k p).back)
-
-pub offsets-pass : (store : List ℕ) (n m side : ℕ) {r : ℕ} → r ≡ unless (offsets_fit m (offsets_on store n side)) → r ≡ 0
-    → offsets_fit m (offsets_on store n side) ≡ true
-offsets-pass store n m side e z = answer-passes (offsets_fit m (offsets_on store n side)) e z
-
-pub lists-pass : (store : List ℕ) (n side : ℕ) {r : ℕ} → r ≡ unless (side_fits store n side) → r ≡ 0 → side_fits store n side ≡ true
-lists-pass store n side e z = answer-passes (side_fits store n side) e z
 
 -- Both sides have offsets that fit.
 module _ {store : List ℕ} {n m one two : ℕ} (k : Counted store n m one two) (described : (labels_fit store && days_fit store) ≡ true)
@@ -159,10 +152,10 @@ module _ {store : List ℕ} {n m one two : ℕ} (k : Counted store n m one two) 
       (λ t. let a = agreed store n one two t in passed-sides a.0 a.1 a.2)
 
   -- After the lists of the second side the reverses decide.
-  pub reverses-decide : {r : ℕ} → r ≡ unless (side_fits store n one && side_reversed store n one two) → side_fits store n two ≡ true
-      → r ≡ store_fault store
+  pub reverses-decide : {r : Bool} → r ≡ (side_fits store n one && side_reversed store n one two) → side_fits store n two ≡ true
+      → unless r ≡ store_fault store
   reverses-decide e g =
-      decides store (side_fits store n one && side_reversed store n one two) e
+      decides store (side_fits store n one && side_reversed store n one two) (ap unless e)
       (λ p. and_both (side_fits store n one) (side_reversed store n one two) (its-lists p) (passed-at k p).reversed)
       (λ t.
       passed-sides (and_l (side_fits store n one) (side_reversed store n one two) t) (and_r (side_fits store n one) (side_reversed store n one two) t) g)

@@ -6,13 +6,13 @@ use Prim.Native.Nat.{ℕ, zero, suc, ◌+◌, ◌-◌, ◌≤◌, ◌<◌}
 use native.Mathlib.Numerals.{add-one}
 use native.Mathlib.Omega.{arith}
 use borrow.Author.Count.{below_more}
-use borrow.Author.Tests.{ltb-true, ltb-false}
-use lib.Dec.{ltb}
+use borrow.Author.Tests.{ltb-true, ltb-false, eqb-true, eqb-false}
+use lib.Dec.{eqb, ltb}
 use lib.ListN.{length, get_or}
 use Rattle.lists.specs.Lists.{bit}
 use Rattle.lists.proofs.Tests.{fails}
-use Rattle.store_reverse.specs.Inner.Check.{unless, offsets_fit}
-use Rattle.store_reverse.proofs.Loops.{refused, OffsetsFrom, offsets-start, offsets-next, offsets-short, offsets-end}
+use Rattle.store_reverse.specs.Inner.Check.{offsets_fit}
+use Rattle.store_reverse.proofs.Loops.{OffsetsFrom, offsets-start, offsets-next, offsets-short, offsets-end}
 use Rattle.store_reverse.proofs.Offsets.{fit-rising}
 use Rattle.store_check.specs.Inner.Order.{Drops}
 
@@ -51,10 +51,10 @@ module _ (m : ℕ) (s : List ℕ) (some : 0 < length s) where
   long : length s ≡ suc (length s - 1)
   long = omega arith
 
-  pub drops-off : {r : ℕ} → Drops s (length s - 1) r → (r ≡ 0 → ⊥) → 19 ≡ unless (offsets_fit m s)
+  pub drops-off : {r : ℕ} → Drops s (length s - 1) r → (r ≡ 0 → ⊥) → false ≡ offsets_fit m s
   drops-off d h =
       let f = d.some h in
-      refused (fails (offsets_fit m s) (λ t. omega (arith, (fit-rising m (length s - 1) s long t).rises f.0 f.1, f.2)))
+      sym (fails (offsets_fit m s) (λ t. omega (arith, (fit-rising m (length s - 1) s long t).rises f.0 f.1, f.2)))
 
   -- Where none drops, the test goes on to the last word.
   module _ {r : ℕ} (z : get_or s 0 0 ≡ 0) (d : Drops s (length s - 1) r) (e : r ≡ 0) where
@@ -65,8 +65,9 @@ module _ (m : ℕ) (s : List ℕ) (some : 0 < length s) where
         (offsets-next (up_to i (omega arith)) (omega arith)
         (omega (arith, d.none e i (omega arith), ap (λ (k : ℕ). get_or s k 0) (add-one i))))
 
-    pub last_off : (get_or s (length s - 1) 0 ≡ m → ⊥) → 19 ≡ unless (offsets_fit m s)
-    last_off h = offsets-short (up_to (length s - 1) (omega arith)) (omega arith) h
-
-    pub offsets-right : get_or s (length s - 1) 0 ≡ m → 0 ≡ unless (offsets_fit m s)
-    offsets-right b = offsets-end (up_to (length s - 1) (omega arith)) (omega arith) b
+    pub offsets-decide : eqb (get_or s (length s - 1) 0) m ≡ offsets_fit m s
+    offsets-decide = go (eqb (get_or s (length s - 1) 0) m) refl
+      where
+        go : (t : Bool) → eqb (get_or s (length s - 1) 0) m ≡ t → eqb (get_or s (length s - 1) 0) m ≡ offsets_fit m s
+        go true t = t ∙ offsets-end (up_to (length s - 1) (omega arith)) (omega arith) (eqb-true _ _ t)
+        go false t = t ∙ offsets-short (up_to (length s - 1) (omega arith)) (omega arith) (eqb-false _ _ t)

@@ -11,7 +11,7 @@ use mathlib.Core.Logic.{◌⊎◌, inl, inr}
 use lib.Dec.{eqb, leb, ltb}
 use lib.ListN.{length, get_or, take, drop, length-drop, drop_of_length-le}
 use lib.Seq.{take-suc, drop-cons, get_or-take, get_or-drop, length-take-le}
-use borrow.Author.Tests.{eq-eqb, ne_eqb, eqb-true, ltb-false, lt-ltb, le-ltb, leb-true, leb-false, lt-leb}
+use borrow.Author.Tests.{eq-eqb, ne_eqb, eqb-true, eqb-false, ltb-false, lt-ltb, le-ltb, leb-true, leb-false, lt-leb}
 use Rattle.lists.specs.Lists.{bit, range, all, count_if, total, ascends_from, ascending}
 use Rattle.lists.proofs.Tests.{iff, and_l, and_r, and_both}
 use Rattle.lists.proofs.All.{all-and, all-follows}
@@ -20,11 +20,10 @@ use Rattle.lists.proofs.Maps.{flat_map-suc}
 use Rattle.lists.proofs.Bits.{bit_le}
 use Rattle.lists.proofs.Sort.{ascends-from}
 use Rattle.adjacency.specs.Inner.Side.{list_on}
-use Rattle.store_reverse.specs.Inner.Check.{unless, list_fits, offsets_fit, offsets_on, side_fits}
+use Rattle.store_reverse.specs.Inner.Check.{list_fits, offsets_fit, offsets_on, side_fits}
 use Rattle.store_check.specs.Inner.Order.{falls_from, start_falls, faults_of}
 use Rattle.store_reverse.proofs.Offsets.{Rising, offsets-rising, offsets-lists, offsets-length, offset-le}
 use Rattle.store_reverse.proofs.Fits.{good_entry, Entry, good-entry, fit-entries, fit-ascending}
-use Rattle.store_reverse.proofs.Loops.{refused, passes}
 
 -- ---- sums that are 0
 
@@ -155,17 +154,15 @@ falls-end {s} {sum} {i} a h =
 
 -- A list with no word has no first word; of another it is compared.
 module _ (store : List ℕ) (n side v : ℕ) where
-  pub start_none : get_or store (side + v + 1) 0 ≤ get_or store (side + v) 0 → 0 ≡ bit (start_falls store n side v)
+  pub start_none : get_or store (side + v + 1) 0 ≤ get_or store (side + v) 0 → false ≡ start_falls store n side v
   start_none h =
-      ap (λ (t : Bool). bit (t && leb (get_or store (side + n + get_or store (side + v) 0 + 1) 0) (get_or store (side + n + get_or store (side + v) 0) 0)))
+      ap (λ (t : Bool). t && leb (get_or store (side + n + get_or store (side + v) 0 + 1) 0) (get_or store (side + n + get_or store (side + v) 0) 0))
       (sym (le-ltb (get_or store (side + v) 0) (get_or store (side + v + 1) 0) h))
 
-  pub start-some : get_or store (side + v) 0 < get_or store (side + v + 1) 0 → {r : ℕ}
-      → r ≡ bit (leb (get_or store (side + n + get_or store (side + v) 0 + 1) 0) (get_or store (side + n + get_or store (side + v) 0) 0))
-      → r ≡ bit (start_falls store n side v)
-  start-some h e =
-      e
-      ∙ ap (λ (t : Bool). bit (t && leb (get_or store (side + n + get_or store (side + v) 0 + 1) 0) (get_or store (side + n + get_or store (side + v) 0) 0)))
+  pub start-some : get_or store (side + v) 0 < get_or store (side + v + 1) 0
+      → leb (get_or store (side + n + get_or store (side + v) 0 + 1) 0) (get_or store (side + n + get_or store (side + v) 0) 0) ≡ start_falls store n side v
+  start-some h =
+      ap (λ (t : Bool). t && leb (get_or store (side + n + get_or store (side + v) 0 + 1) 0) (get_or store (side + n + get_or store (side + v) 0) 0))
       (sym (lt-ltb (get_or store (side + v) 0) (get_or store (side + v + 1) 0) h))
 
 -- The lists whose first word falls, one after the other.
@@ -262,8 +259,8 @@ module _ (store : List ℕ) (n m side : ℕ) (room : side + n + 1 + m ≤ length
     is-broken : f ≡ broken
     is-broken = e ∙ ap (λ (k : ℕ). total (faults_of n) (take k entries)) (let i : side + n + 1 + m - (side + n + 1) ≡ m = omega arith in i)
 
-    pub ranges-refuse : (f ≡ 0 → ⊥) → 19 ≡ unless (side_fits store n side)
-    ranges-refuse z = refused (side-parted ∙ rw (ne_eqb broken 0 (λ o. z (is-broken ∙ o))))
+    pub ranges-refuse : (f ≡ 0 → ⊥) → false ≡ side_fits store n side
+    ranges-refuse z = sym (side-parted ∙ rw (ne_eqb broken 0 (λ o. z (is-broken ∙ o))))
 
     module _ {a b : ℕ}
         (d : let p = take (side + n + 1 + m - (side + n)) (drop (side + n) store) in a ≡ falls_from (get_or p 0 0) (drop 1 p))
@@ -278,8 +275,11 @@ module _ (store : List ℕ) (n m side : ℕ) (room : side + n + 1 + m ≤ length
           d ∙ ap (λ (p : List ℕ). falls_from (get_or p 0 0) (drop 1 p)) part ∙ ap (falls_from first) (sym lists-flat)
           ∙ falls-parted n (omega arith) ∙ ap (λ (k : ℕ). k + falling) (sym c)
 
-      pub order-refuses : (a ≡ b → ⊥) → 19 ≡ unless (side_fits store n side)
-      order-refuses z = refused (side-parted ∙ ap (λ (t : Bool). eqb broken 0 && t) (ne_eqb falling 0 (λ o. z (omega (arith, parted)))) ∙ and-false (eqb broken 0))
-
-      pub order-passes : f ≡ 0 → a ≡ b → 0 ≡ unless (side_fits store n side)
-      order-passes o z = passes (side-parted ∙ and_both (eqb broken 0) (eqb falling 0) (eq-eqb broken 0 (sym is-broken ∙ o)) (eq-eqb falling 0 (omega (arith, parted))))
+      pub order-decides : f ≡ 0 → eqb a b ≡ side_fits store n side
+      order-decides o = go (eqb a b) refl
+        where
+          go : (t : Bool) → eqb a b ≡ t → eqb a b ≡ side_fits store n side
+          go true t =
+              t ∙ sym (side-parted ∙ and_both (eqb broken 0) (eqb falling 0) (eq-eqb broken 0 (sym is-broken ∙ o)) (eq-eqb falling 0 (omega (arith, parted, eqb-true a b t))))
+          go false t =
+              t ∙ sym (side-parted ∙ ap (λ (u : Bool). eqb broken 0 && u) (ne_eqb falling 0 (λ z. eqb-false a b t (omega (arith, parted)))) ∙ and-false (eqb broken 0))

@@ -1,10 +1,11 @@
 -- Lists of at most four words, looked through at once. Assumes nothing.
-use mathlib.Core.Path.{◌≡◌, refl}
-use mathlib.Core.Bool.{Bool, true, false, ◌||◌}
+use mathlib.Core.Path.{◌≡◌, refl, sym, ◌∙◌, ap}
+use mathlib.Core.Bool.{Bool, true, false, not, ◌||◌}
 use mathlib.Core.List.{List, [], ◌∷◌}
 use Prim.Native.Nat.{ℕ, ◌+◌, ◌-◌, ◌≤◌, ◌<◌}
 use native.Mathlib.Omega.{arith}
 use mir.Val.{bool_byte}
+use borrow.Author.Tests.{eqb-true, eqb-false}
 use lib.Dec.{eqb, ltb}
 use lib.ListN.{length, get_or}
 use Rattle.lists.specs.Lists.{bit, any}
@@ -21,8 +22,8 @@ third end = bool_byte (ltb 0 end) + bool_byte (ltb 1 end)
 -- How many of the four have the word.
 abbrev pub found : ℕ → List ℕ → ℕ
 found x s =
-    bit (eqb (get_or s 0 0) x) + bit (eqb (get_or s (second (length s - 1)) 0) x) + bit (eqb (get_or s (third (length s - 1)) 0) x)
-    + bit (eqb (get_or s (length s - 1) 0) x)
+    bool_byte (eqb (get_or s 0 0) x) + bool_byte (eqb (get_or s (second (length s - 1)) 0) x) + bool_byte (eqb (get_or s (third (length s - 1)) 0) x)
+    + bool_byte (eqb (get_or s (length s - 1) 0) x)
 
 pub places-in : (s : List ℕ) → 0 < length s → length s ≤ 4 → (second (length s - 1) < length s) × (third (length s - 1) < length s)
 places-in [] h l = absurd (omega arith)
@@ -73,6 +74,14 @@ few-has x s h l e = go (member x s) refl
     go : (b : Bool) → member x s ≡ b → member x s ≡ true
     go true t = t
     go false t = absurd (e (lacks-few x s l h t))
+
+-- The test of the sum.
+pub few-found : (x : ℕ) (s : List ℕ) → 0 < length s → length s ≤ 4 → not (eqb (found x s) 0) ≡ member x s
+few-found x s h l = go (eqb (found x s) 0) refl
+  where
+    go : (b : Bool) → eqb (found x s) 0 ≡ b → not (eqb (found x s) 0) ≡ member x s
+    go true t = ap not t ∙ sym (few-lacks x s h l (eqb-true (found x s) 0 t))
+    go false t = ap not t ∙ sym (few-has x s h l (eqb-false (found x s) 0 t))
 
 pub lacks-none : (x : ℕ) (s : List ℕ) → length s ≡ 0 → member x s ≡ false
 unfolding any

@@ -1,7 +1,7 @@
 -- The loops of the store check: a test of the whole list is the test of what is left of it, and fails where one word fails.
 -- Each invariant has the laws of its start, its step, a failed test and its end. Assumes nothing.
 use mathlib.Core.Path.{◌≡◌, refl, sym, ◌∙◌, ap, fun_ext}
-use mathlib.Core.Bool.{Bool, true, false, ◌&&◌, and-false}
+use mathlib.Core.Bool.{Bool, true, false, ◌&&◌}
 use mathlib.Core.List.{List, [], ◌∷◌}
 use Prim.Native.Nat.{ℕ, ◌+◌, ◌%◌, ◌≤◌, ◌<◌, zero-le}
 use native.Mathlib.Numerals.{add-one}
@@ -9,32 +9,17 @@ use native.Mathlib.Omega.{arith}
 use lib.Dec.{eqb, ltb}
 use lib.ListN.{length, get_or, drop, drop_of_length-le}
 use lib.Seq.{drop-cons}
-use borrow.Author.Tests.{eq-eqb, ne_eqb, ltb-true, lt-ltb, le-ltb, le-leb}
+use borrow.Author.Tests.{eq-eqb, ne_eqb, ltb-true, le-leb}
 use Rattle.lists.specs.Lists.{range, all, any, ascends_from, ascending}
 use Rattle.lists.proofs.Tests.{clash, fails, and_l, and_r, and_both, eqb-sym}
-use Rattle.lists.proofs.All.{all-at, all-and, all_append, all_get_d}
+use Rattle.lists.proofs.All.{all-at, all-and, all_append}
 use Rattle.search.specs.Inner.Search.{place_of}
 use Rattle.search.proofs.Places.{place_none, place-some}
 use Rattle.adjacency.specs.Inner.Side.{list_on}
 use Rattle.adjacency.specs.Inner.Portion.{member}
-use Rattle.store_reverse.specs.Inner.Check.{unless, rises_to, offsets_fit, entry_fits, list_fits, side_fits, list_reversed, side_reversed}
+use Rattle.store_reverse.specs.Inner.Check.{rises_to, offsets_fit, entry_fits, list_fits, side_fits, list_reversed, side_reversed}
 
--- ---- refusals
-
-pub refused : {b : Bool} → b ≡ false → 19 ≡ unless b
-refused e = ap unless (sym e)
-
-pub passes : {b : Bool} → b ≡ true → 0 ≡ unless b
-passes e = ap unless (sym e)
-
--- An answer of 0 passed the test, and any other failed it.
-pub answer-passes : (b : Bool) {r : ℕ} → r ≡ unless b → r ≡ 0 → b ≡ true
-answer-passes true e z = refl
-answer-passes false e z = absurd (omega arith)
-
-pub answer-fails : (b : Bool) {r : ℕ} → r ≡ unless b → (r ≡ 0 → ⊥) → b ≡ false
-answer-fails true e h = absurd (h e)
-answer-fails false e h = refl
+-- ---- tests
 
 -- The place of a word tells whether it is a member.
 module _ (x : ℕ) (s : List ℕ) where
@@ -42,25 +27,15 @@ module _ (x : ℕ) (s : List ℕ) where
   is_member = ap (λ (t : ℕ → Bool). any t s) (sym (fun_ext (eqb-sym x)))
 
   module _ (up : ascending s ≡ true) {r : ℕ} (e : r ≡ place_of s x) where
-    pub unplaced : r ≡ length s → 19 ≡ unless (member x s)
-    unplaced z = refused (is_member ∙ place_none s x up e z)
+    pub unplaced : r ≡ length s → false ≡ member x s
+    unplaced z = sym (is_member ∙ place_none s x up e z)
 
-    pub placed : (r ≡ length s → ⊥) → 0 ≡ unless (member x s)
-    placed f = passes (is_member ∙ (place-some s x up e f).0)
+    pub placed : (r ≡ length s → ⊥) → true ≡ member x s
+    placed f = sym (is_member ∙ (place-some s x up e f).0)
 
--- The answer to a test that failed is the answer to one that fails with it.
-pub answer-hands : (a b : Bool) {r : ℕ} → r ≡ unless a → (r ≡ 0 → ⊥) → (b ≡ true → a ≡ true) → r ≡ unless b
-answer-hands a b e h f = e ∙ ap unless (answer-fails a e h ∙ sym (fails b (λ t. clash (f t) (answer-fails a e h))))
-
--- Two tests of which both are passed, or one failed.
-pub both-pass : (a b : Bool) → 0 ≡ unless a → 0 ≡ unless b → 0 ≡ unless (a && b)
-both-pass a b e f = passes (and_both a b (answer-passes a e refl) (answer-passes b f refl))
-
-pub one-fails : (a b : Bool) {r : ℕ} → r ≡ unless a → (r ≡ 0 → ⊥) → r ≡ unless (a && b)
-one-fails a b e h = answer-hands a (a && b) e h (and_l a b)
-
-pub other-fails : (a b : Bool) {r : ℕ} → r ≡ unless b → (r ≡ 0 → ⊥) → r ≡ unless (a && b)
-other-fails a b e h = answer-hands b (a && b) e h (and_r a b)
+-- A test fails where one fails that it needs.
+pub fails-with : (a b : Bool) {r : Bool} → r ≡ a → r ≡ false → (b ≡ true → a ≡ true) → false ≡ b
+fails-with a b e z f = sym (fails b (λ t. clash (f t) (sym e ∙ z)))
 
 -- ---- a word after the other
 
@@ -79,21 +54,13 @@ pub all-next : {p : ℕ → Bool} {s : List ℕ} {i : ℕ} → AllFrom p s i →
 unfolding all
 all-next {p} {s} {i} a h t = record { inside = omega arith; left = a.left ∙ ap (all p) (rest s h) ∙ ap (λ (b : Bool). b && all p (drop (i + 1) s)) t }
 
-pub all-stop : {p : ℕ → Bool} {s : List ℕ} {i : ℕ} → AllFrom p s i → i < length s → p (get_or s i 0) ≡ false → 19 ≡ unless (all p s)
+pub all-stop : {p : ℕ → Bool} {s : List ℕ} {i : ℕ} → AllFrom p s i → i < length s → p (get_or s i 0) ≡ false → false ≡ all p s
 unfolding all
-all-stop {p} {s} {i} a h t = refused (a.left ∙ ap (all p) (rest s h) ∙ ap (λ (b : Bool). b && all p (drop (i + 1) s)) t)
+all-stop {p} {s} {i} a h t = sym (a.left ∙ ap (all p) (rest s h) ∙ ap (λ (b : Bool). b && all p (drop (i + 1) s)) t)
 
--- The same where the test of a word is another function's answer.
-pub all-goes : {p : ℕ → Bool} {s : List ℕ} {i : ℕ} → AllFrom p s i → i < length s → {r : ℕ} → r ≡ unless (p (get_or s i 0)) → r ≡ 0 → AllFrom p s (i + 1)
-all-goes {p} {s} {i} a h e z = all-next a h (answer-passes (p (get_or s i 0)) e z)
-
-pub all-halts : {p : ℕ → Bool} {s : List ℕ} {i : ℕ} → AllFrom p s i → i < length s → {r : ℕ} → r ≡ unless (p (get_or s i 0)) → (r ≡ 0 → ⊥)
-    → r ≡ unless (all p s)
-all-halts {p} {s} {i} a h e z = answer-hands (p (get_or s i 0)) (all p s) e z (λ t. all_get_d p s i 0 h t)
-
-pub all_end : {p : ℕ → Bool} {s : List ℕ} {i : ℕ} → AllFrom p s i → length s ≤ i → 0 ≡ unless (all p s)
+pub all_end : {p : ℕ → Bool} {s : List ℕ} {i : ℕ} → AllFrom p s i → length s ≤ i → true ≡ all p s
 unfolding all
-all_end {p} {s} a h = passes (a.left ∙ ap (all p) (drop_of_length-le s h))
+all_end {p} {s} a h = sym (a.left ∙ ap (all p) (drop_of_length-le s h))
 
 -- ---- a number after the other
 
@@ -105,29 +72,29 @@ pub below-start : {p : ℕ → Bool} {n : ℕ} → AllBelow p n 0
 unfolding all range
 below-start = record { inside = zero-le; passed = refl }
 
-pub below_next : {p : ℕ → Bool} {n v : ℕ} → AllBelow p n v → v < n → {r : ℕ} → r ≡ unless (p v) → r ≡ 0 → AllBelow p n (v + 1)
+pub below_next : {p : ℕ → Bool} {n v : ℕ} → AllBelow p n v → v < n → {r : Bool} → r ≡ p v → r ≡ true → AllBelow p n (v + 1)
 unfolding all range
 below_next {p} {n} {v} a h e z =
     record {
       inside = omega arith;
       passed =
           ap (λ (k : ℕ). all p (range k)) (add-one v) ∙ all_append p (range v) (v ∷ [])
-          ∙ and_both (all p (range v)) (p v && true) a.passed (and_both (p v) true (answer-passes (p v) e z) refl);
+          ∙ and_both (all p (range v)) (p v && true) a.passed (and_both (p v) true (sym e ∙ z) refl);
     }
 
-pub below-stop : {p : ℕ → Bool} {n v : ℕ} → AllBelow p n v → v < n → {r : ℕ} → r ≡ unless (p v) → (r ≡ 0 → ⊥) → r ≡ unless (all p (range n))
-below-stop {p} {n} {v} a h e z = answer-hands (p v) (all p (range n)) e z (λ t. all-at p n t v h)
+pub below-stop : {p : ℕ → Bool} {n v : ℕ} → AllBelow p n v → v < n → {r : Bool} → r ≡ p v → r ≡ false → false ≡ all p (range n)
+below-stop {p} {n} {v} a h e z = fails-with (p v) (all p (range n)) e z (λ t. all-at p n t v h)
 
-pub below_end : {p : ℕ → Bool} {n v : ℕ} → AllBelow p n v → n ≤ v → 0 ≡ unless (all p (range n))
-below_end {p} {n} {v} a h = passes (ap (λ (k : ℕ). all p (range k)) (let e : n ≡ v = omega arith in e) ∙ a.passed)
+pub below_end : {p : ℕ → Bool} {n v : ℕ} → AllBelow p n v → n ≤ v → true ≡ all p (range n)
+below_end {p} {n} {v} a h = sym (ap (λ (k : ℕ). all p (range k)) (let e : n ≡ v = omega arith in e) ∙ a.passed)
 
 -- The tests of a side's lists, both at once.
 pub lists-both : (store : List ℕ) (n side other : ℕ)
-    → unless (all (λ (v : ℕ). list_fits n (list_on store n side v) && list_reversed store n other v (list_on store n side v)) (range n))
-    ≡ unless (side_fits store n side && side_reversed store n side other)
+    → all (λ (v : ℕ). list_fits n (list_on store n side v) && list_reversed store n other v (list_on store n side v)) (range n)
+    ≡ (side_fits store n side && side_reversed store n side other)
 unfolding side_fits side_reversed
 lists-both store n side other =
-    ap unless (all-and (λ (v : ℕ). list_fits n (list_on store n side v)) (λ (v : ℕ). list_reversed store n other v (list_on store n side v)) (range n))
+    all-and (λ (v : ℕ). list_fits n (list_on store n side v)) (λ (v : ℕ). list_reversed store n other v (list_on store n side v)) (range n)
 
 -- ---- offsets
 
@@ -135,10 +102,10 @@ pub record OffsetsFrom (m : ℕ) (s : List ℕ) (last i : ℕ) : Type 0 where
   pub inside : i ≤ length s
   pub left : offsets_fit m s ≡ rises_to m last (drop i s)
 
-pub offsets-first : (m : ℕ) (s : List ℕ) → 0 < length s → (get_or s 0 0 ≡ 0 → ⊥) → 19 ≡ unless (offsets_fit m s)
+pub offsets-first : (m : ℕ) (s : List ℕ) → 0 < length s → (get_or s 0 0 ≡ 0 → ⊥) → false ≡ offsets_fit m s
 unfolding offsets_fit
-offsets-first m [] h z = refused refl
-offsets-first m (x ∷ s) h z = refused (ap (λ (b : Bool). b && rises_to m x s) (ne_eqb x 0 z))
+offsets-first m [] h z = refl
+offsets-first m (x ∷ s) h z = sym (ap (λ (b : Bool). b && rises_to m x s) (ne_eqb x 0 z))
 
 pub offsets-start : (m : ℕ) (s : List ℕ) → 0 < length s → get_or s 0 0 ≡ 0 → OffsetsFrom m s 0 1
 unfolding offsets_fit
@@ -160,33 +127,21 @@ offsets-last : {m : ℕ} {s : List ℕ} {last i : ℕ} → OffsetsFrom m s last 
 unfolding rises_to
 offsets-last {m} {s} {last} a h = a.left ∙ ap (rises_to m last) (drop_of_length-le s h)
 
-pub offsets-short : {m : ℕ} {s : List ℕ} {last i : ℕ} → OffsetsFrom m s last i → length s ≤ i → (last ≡ m → ⊥) → 19 ≡ unless (offsets_fit m s)
-offsets-short {m} {s} {last} a h z = refused (offsets-last a h ∙ ne_eqb last m z)
+pub offsets-short : {m : ℕ} {s : List ℕ} {last i : ℕ} → OffsetsFrom m s last i → length s ≤ i → (last ≡ m → ⊥) → false ≡ offsets_fit m s
+offsets-short {m} {s} {last} a h z = sym (offsets-last a h ∙ ne_eqb last m z)
 
-pub offsets-end : {m : ℕ} {s : List ℕ} {last i : ℕ} → OffsetsFrom m s last i → length s ≤ i → last ≡ m → 0 ≡ unless (offsets_fit m s)
-offsets-end {m} {s} {last} a h z = passes (offsets-last a h ∙ eq-eqb last m z)
+pub offsets-end : {m : ℕ} {s : List ℕ} {last i : ℕ} → OffsetsFrom m s last i → length s ≤ i → last ≡ m → true ≡ offsets_fit m s
+offsets-end {m} {s} {last} a h z = sym (offsets-last a h ∙ eq-eqb last m z)
 
 -- ---- the entries of a vertex
 
 abbrev fits : ℕ → ℕ → Bool
 fits n k = ltb k 16777216 && ltb (k % 65536) n
 
--- The answers to the test of an entry.
-pub entry-falls : (n last k : ℕ) → k ≤ last → 19 ≡ unless (entry_fits n last k)
-entry-falls n last k p = refused {b = entry_fits n last k} (rw (le-ltb last k p))
-
-pub entry-wide : (n last k : ℕ) → 16777216 ≤ k → 19 ≡ unless (entry_fits n last k)
-entry-wide n last k p = refused {b = entry_fits n last k} (simp (le-ltb k 16777216 p, and-false))
-
-pub entry-outside : (n last k : ℕ) → n ≤ k % 65536 → 19 ≡ unless (entry_fits n last k)
-entry-outside n last k p = refused {b = entry_fits n last k} (simp (le-ltb (k % 65536) n p, and-false))
-
-pub entry-passes : (n last k : ℕ) → last < k → k < 16777216 → k % 65536 < n → 0 ≡ unless (entry_fits n last k)
-entry-passes n last k p q r = passes {b = entry_fits n last k} (rw (lt-ltb last k p, lt-ltb k 16777216 q, lt-ltb (k % 65536) n r))
-
-pub entry_in_lem : (n last k : ℕ) {r : ℕ} → r ≡ unless (entry_fits n last k) → r ≡ 0 → (k < 16777216) × (k % 65536 < n)
+-- An entry that passes.
+pub entry_in_lem : (n last k : ℕ) {r : Bool} → r ≡ entry_fits n last k → r ≡ true → (k < 16777216) × (k % 65536 < n)
 entry_in_lem n last k e z =
-    let t : fits n k ≡ true = and_r (ltb last k) (fits n k) (answer-passes (entry_fits n last k) e z) in
+    let t : fits n k ≡ true = and_r (ltb last k) (fits n k) (sym e ∙ z) in
     (ltb-true k 16777216 (and_l (ltb k 16777216) (ltb (k % 65536) n) t), ltb-true (k % 65536) n (and_r (ltb k 16777216) (ltb (k % 65536) n) t))
 
 pub record ListFrom (n : ℕ) (s : List ℕ) (last i : ℕ) : Type 0 where
@@ -203,18 +158,18 @@ module _ {n : ℕ} {s : List ℕ} {last i : ℕ} (a : ListFrom n s last i) (h : 
   unfolding ascends_from all
   list_left = a.left ∙ ap (λ (l : List ℕ). ascends_from last l && all (fits n) l) (rest s h)
 
-  module _ {r : ℕ} (e : r ≡ unless (entry_fits n last (get_or s i 0))) where
-    pub list-next : r ≡ 0 → ListFrom n s (get_or s i 0) (i + 1)
+  module _ {r : Bool} (e : r ≡ entry_fits n last (get_or s i 0)) where
+    pub list-next : r ≡ true → ListFrom n s (get_or s i 0) (i + 1)
     list-next z = record { inside = further; left = list_left ∙ rw (and_l (ltb last (get_or s i 0)) _ t, and_r (ltb last (get_or s i 0)) _ t) }
       where
         t : entry_fits n last (get_or s i 0) ≡ true
-        t = answer-passes (entry_fits n last (get_or s i 0)) e z
+        t = sym e ∙ z
 
         further : i + 1 ≤ length s
         further = omega arith
 
-    pub list-stop : (r ≡ 0 → ⊥) → r ≡ unless (list_fits n s)
-    list-stop z = answer-hands (entry_fits n last (get_or s i 0)) (list_fits n s) e z (λ t. parts (sym list_left ∙ t))
+    pub list-stop : r ≡ false → false ≡ list_fits n s
+    list-stop z = fails-with (entry_fits n last (get_or s i 0)) (list_fits n s) e z (λ t. parts (sym list_left ∙ t))
       where
         parts :
             ((ltb last (get_or s i 0) && ascends_from (get_or s i 0) (drop (i + 1) s)) && (fits n (get_or s i 0) && all (fits n) (drop (i + 1) s))) ≡ true
@@ -225,6 +180,6 @@ module _ {n : ℕ} {s : List ℕ} {last i : ℕ} (a : ListFrom n s last i) (h : 
             and_both (ltb last (get_or s i 0)) (fits n (get_or s i 0))
             (and_l (ltb last (get_or s i 0)) (ascends_from (get_or s i 0) (drop (i + 1) s)) l) (and_l (fits n (get_or s i 0)) (all (fits n) (drop (i + 1) s)) f)
 
-pub list-end : {n : ℕ} {s : List ℕ} {last i : ℕ} → ListFrom n s last i → length s ≤ i → 0 ≡ unless (list_fits n s)
+pub list-end : {n : ℕ} {s : List ℕ} {last i : ℕ} → ListFrom n s last i → length s ≤ i → true ≡ list_fits n s
 unfolding ascends_from all
-list-end {n} {s} {last} a h = passes (a.left ∙ ap (λ (l : List ℕ). ascends_from last l && all (fits n) l) (drop_of_length-le s h))
+list-end {n} {s} {last} a h = sym (a.left ∙ ap (λ (l : List ℕ). ascends_from last l && all (fits n) l) (drop_of_length-le s h))

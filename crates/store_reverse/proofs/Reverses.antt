@@ -15,9 +15,9 @@ use Rattle.lists.proofs.All.{all-at, all-range, all_get_d, get_or-all}
 use Rattle.lists.proofs.Maps.{get_or-image, length-image}
 use Rattle.adjacency.specs.Inner.Side.{list_on}
 use Rattle.adjacency.specs.Inner.Portion.{member}
-use Rattle.store_reverse.specs.Inner.Check.{unless, reverse, offsets_on, list_fits, side_fits, list_reversed, side_reversed}
+use Rattle.store_reverse.specs.Inner.Check.{reverse, offsets_on, list_fits, side_fits, list_reversed, side_reversed}
 use Rattle.store_reverse.specs.Inner.Begun.{begun, begun_in, Begins, EntryFits, BlockFits, Flat, entry_reversed, entries_reversed, Sides}
-use Rattle.store_reverse.proofs.Loops.{answer-hands, answer-passes, passes}
+use Rattle.store_reverse.proofs.Loops.{fails-with}
 use Rattle.store_reverse.proofs.Begun.{Offsets, begun-some, begun-few, begun-none, its-start, its-end, its-vertex, rises-on, last_is}
 use Rattle.store_reverse.proofs.Fits.{good_entry, fit-entries, good-entry}
 
@@ -95,16 +95,16 @@ module _ {store : List ℕ} {n other : ℕ} {starts entries : List ℕ} (f : Fla
       same_test j k =
           ap₂ (λ (c e : ℕ). member (reverse (c - 1) e) (list_on store n other (e % 65536))) (count_at j (omega (arith, part-size))) (part_at j k)
 
-      pub block-refuses : {r : ℕ} → r ≡ unless (all block_reversed (range (length part))) → (r ≡ 0 → ⊥)
-          → r ≡ unless (entries_reversed store n other starts entries)
+      pub block-refuses : {r : Bool} → r ≡ all block_reversed (range (length part)) → r ≡ false
+          → false ≡ entries_reversed store n other starts entries
       unfolding entries_reversed
       block-refuses e h =
-          answer-hands (all block_reversed (range (length part))) (all (entry_reversed store n other starts entries) (range (length entries))) e h
+          fails-with (all block_reversed (range (length part))) (all (entry_reversed store n other starts entries) (range (length entries))) e h
           (λ g.
           all-range block_reversed (length part)
           (λ j k. same_test j k ∙ all-at (entry_reversed store n other starts entries) (length entries) g (base + j) (part_in j k)))
 
-      pub tested-more : {r : ℕ} → r ≡ unless (all block_reversed (range (length part))) → r ≡ 0 → Tested (get_or counts 1023 0) (base + 1024)
+      pub tested-more : {r : Bool} → r ≡ all block_reversed (range (length part)) → r ≡ true → Tested (get_or counts 1023 0) (base + 1024)
       tested-more e z =
           record {
             near = omega arith;
@@ -120,12 +120,12 @@ module _ {store : List ℕ} {n other : ℕ} {starts entries : List ℕ} (f : Fla
               let at : base + (i - base) ≡ i = omega arith in
               rw at at
               (sym (same_test (i - base) k)
-              ∙ all-at block_reversed (length part) (answer-passes (all block_reversed (range (length part))) e z) (i - base) k)
+              ∙ all-at block_reversed (length part) (sym e ∙ z) (i - base) k)
 
-  pub tested-all : {next base : ℕ} → Tested next base → length entries ≤ base → 0 ≡ unless (entries_reversed store n other starts entries)
+  pub tested-all : {next base : ℕ} → Tested next base → length entries ≤ base → true ≡ entries_reversed store n other starts entries
   unfolding entries_reversed
   tested-all t l =
-      passes (all-range (entry_reversed store n other starts entries) (length entries) (λ i k. t.reversed i (omega arith) k))
+      sym (all-range (entry_reversed store n other starts entries) (length entries) (λ i k. t.reversed i (omega arith) k))
 
 -- ---- a side
 
@@ -243,5 +243,5 @@ module _ {store : List ℕ} {n m side other : ℕ} (h : Sides store n m side oth
       ∙ all_get_d (word_reversed (its i l)) (list_on store n side (its i l)) (i - get_or starts (its i l) 0) 0 (its-place i l)
       (all-at (λ (v : ℕ). all (word_reversed v) (list_on store n side v)) n t (its i l) (its-in i l)))
 
-  pub same-reverses : unless (entries_reversed store n other starts entries) ≡ unless (side_reversed store n side other)
-  same-reverses = ap unless (iff (entries_reversed store n other starts entries) (side_reversed store n side other) by-lists by_entries)
+  pub same-reverses : entries_reversed store n other starts entries ≡ side_reversed store n side other
+  same-reverses = iff (entries_reversed store n other starts entries) (side_reversed store n side other) by-lists by_entries

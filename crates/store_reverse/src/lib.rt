@@ -9,105 +9,88 @@
 
 pub mod hint;
 
-ghost use Rattle.std.specs.Prelude.{◌≡◌, ℕ, suc, ◌+◌, ◌-◌, ◌%◌, ◌≤◌, ◌<◌, eqb, length, get_or, take, drop};
-ghost use Rattle.lists.specs.Lists.{bit, range, all};
+ghost use Rattle.std.specs.Prelude.{◌≡◌, ℕ, suc, ◌+◌, ◌-◌, ◌%◌, ◌≤◌, ◌<◌, length, get_or, take, drop};
+ghost use Rattle.lists.specs.Lists.{range, all};
 ghost use Rattle.graph.specs.Graph.{max_graph_vertices, entry_span};
 ghost use Rattle.counting_sort.specs.Inner.Groups.{group_sizes};
 ghost use Rattle.adjacency.specs.Inner.Side.{list_on};
 ghost use Rattle.adjacency.specs.Inner.Portion.{member};
-ghost use Rattle.store_reverse.specs.Inner.Check.{unless, reverse, GoodSide, side_reversed};
+ghost use Rattle.store_reverse.specs.Inner.Check.{reverse, GoodSide, side_reversed};
 ghost use Rattle.store_reverse.specs.Inner.Begun.{block_entries, begun_in, Begins, start_in, EntryFits};
 ghost use Rattle.store_reverse.specs.Inner.Begun.{BlockFits, Flat, entries_reversed, Sides};
 
-use crate::hint::hinted_fault;
+use crate::hint::has_hinted;
 use adjacency::neighbours;
 use graph::Graph;
-use refusals::Refusal;
 
 const BLOCK: usize = 1024;
 
 // A list of so many words is looked through at once.
 const FEW: usize = 4;
 
-// 1 where word i is x, else 0: sums of these take no branch.
-fn is_at(list: &[u32], i: usize, x: u32) -> u32
-    requires { i < length list.now }
-    ensures { (result ≡ bit (eqb (get_or list.now i 0) x)) × (result ≤ 1) }
-{
-    (list[i] == x) as u32
-}
-
-// 19 where a list of at most four words lacks a word, else 0. Four places are looked at, whatever its length:
-// those past its end are its last.
-fn few_fault(list: &[u32], x: u32) -> u32
+// Whether a list of at most four words has a word. Four places are looked at, whatever its length: those past
+// its end are its last. The sum takes no branch.
+fn has_few(list: &[u32], x: u32) -> bool
     requires { length list.now ≤ 4 }
-    ensures { result ≡ unless (member x list.now) }
+    ensures { result ≡ member x list.now }
 {
     if list.len() == 0 {
-        return Refusal::STORE_DAMAGED;
+        return false;
     }
     let end = list.len() - 1;
     let second = (0 < end) as usize;
     let third = second + (1 < end) as usize;
-    let found = is_at(list, 0, x)
-        + is_at(list, second, x)
-        + is_at(list, third, x)
-        + is_at(list, end, x);
-    if found == 0 {
-        return Refusal::STORE_DAMAGED;
-    }
-    0
+    let found = (list[0] == x) as u32
+        + (list[second] == x) as u32
+        + (list[third] == x) as u32
+        + (list[end] == x) as u32;
+    found != 0
 }
 
-// 19 unless an entry of vertex v has its reverse on the other side: its neighbour's entry of the same label
-// and v; else 0.
-fn reverse_fault(
+// Whether an entry of vertex v has its reverse on the other side: its neighbour's entry of the same label
+// and v.
+fn is_reversed(
     store: &[u32],
     n: usize,
     other: usize,
     v: u32,
     entry: u32,
     hints: &mut [u8; Graph::MAX_VERTICES],
-) -> u32
+) -> bool
     requires { GoodSide store.now n other × (v < n) × (n < suc max_graph_vertices) × EntryFits n entry }
-    ensures { result ≡ unless (member (reverse v entry) (list_on store.now n other
-        (entry % entry_span))) }
+    ensures { result ≡ member (reverse v entry) (list_on store.now n other (entry % entry_span)) }
 {
     let x = (entry % Graph::SPAN) as usize;
     let reverse = entry - entry % Graph::SPAN + v;
     let list = neighbours(store, n, other, x);
     if FEW < list.len() {
-        return hinted_fault(list, reverse, hints, x);
+        return has_hinted(list, reverse, hints, x);
     }
-    few_fault(list, reverse)
+    has_few(list, reverse)
 }
 
-// 19 unless every entry of a block has its reverse on the other side; else 0.
-fn block_fault(
+// Whether every entry of a block has its reverse on the other side.
+fn block_reversed(
     store: &[u32],
     n: usize,
     other: usize,
     entries: &[u32],
     begun: &[u32],
     hints: &mut [u8; Graph::MAX_VERTICES],
-) -> u32
+) -> bool
     requires { GoodSide store.now n other × (n < suc max_graph_vertices)
         × BlockFits n entries.now begun.now }
     ensures { result
-        ≡ unless (all (λ (j : ℕ). member (reverse (get_or begun.now j 0 - 1)
-        (get_or entries.now j 0))
+        ≡ all (λ (j : ℕ). member (reverse (get_or begun.now j 0 - 1) (get_or entries.now j 0))
         (list_on store.now n other (get_or entries.now j 0 % entry_span)))
-        (range (length entries.now))) }
+        (range (length entries.now)) }
 {
-    let mut j = 0;
-    while j < entries.len() {
-        let fault = reverse_fault(store, n, other, begun[j] - 1, entries[j], hints);
-        if fault != 0 {
-            return fault;
+    for j in 0..entries.len() {
+        if !is_reversed(store, n, other, begun[j] - 1, entries[j], hints) {
+            return false;
         }
-        j += 1;
     }
-    0
+    true
 }
 
 // How many lists begin at each entry of a block; the `next` ones that begin before it are counted at its
@@ -117,16 +100,14 @@ fn count_starts(starts: &[u32], next: usize, base: usize, counts: &mut [u32])
     ensures { counts.new ≡ group_sizes (start_in starts.now base) block_entries
         (range (length starts.now - 1)) }
 {
-    words::clear(counts);
+    counts.fill(0);
     counts[0] = next as u32;
-    let mut v = next;
-    while v + 1 < starts.len() {
+    for v in next..starts.len() - 1 {
         let at = starts[v] as usize;
         if base + BLOCK <= at {
             return;
         }
         counts[at - base] += 1;
-        v += 1;
     }
 }
 
@@ -144,14 +125,11 @@ fn block(entries: &[u32], base: usize) -> &[u32]
     requires { base ≤ length entries.now }
     ensures { result.now ≡ take block_entries (drop base entries.now) }
 {
-    if entries.len() - base < BLOCK {
-        return &entries[base..];
-    }
-    &entries[base..base + BLOCK]
+    &entries[base..entries.len().min(base + BLOCK)]
 }
 
-// 19 unless every entry of a side has its reverse on the other; else 0.
-fn blocks_fault(
+// Whether every entry of a side has its reverse on the other.
+fn blocks_reversed(
     store: &[u32],
     n: usize,
     other: usize,
@@ -159,34 +137,32 @@ fn blocks_fault(
     entries: &[u32],
     begun: &mut [u32],
     hints: &mut [u8; Graph::MAX_VERTICES],
-) -> u32
+) -> bool
     requires { Flat store.now n other starts.now entries.now × (length begun.old ≡ block_entries) }
-    ensures { result ≡ unless (entries_reversed store.now n other starts.now
-        entries.now) }
+    ensures { result ≡ entries_reversed store.now n other starts.now entries.now }
 {
     let mut next = 0;
     let mut base = 0;
     while base < entries.len() {
         lists_begun(starts, next, base, begun);
-        let fault = block_fault(store, n, other, block(entries, base), begun, hints);
-        if fault != 0 {
-            return fault;
+        if !block_reversed(store, n, other, block(entries, base), begun, hints) {
+            return false;
         }
         next = begun[BLOCK - 1] as usize;
         base += BLOCK;
     }
-    0
+    true
 }
 
-// 19 unless every list of a side is reversed on the other; else 0.
-pub fn short_lists_fault(store: &[u32], n: usize, m: usize, side: usize, other: usize) -> u32
+// Whether every list of a side is reversed on the other.
+pub fn short_lists_reversed(store: &[u32], n: usize, m: usize, side: usize, other: usize) -> bool
     requires { Sides store.now n m side other }
-    ensures { result ≡ unless (side_reversed store.now n side other) }
+    ensures { result ≡ side_reversed store.now n side other }
 {
     let mut begun = [0u32; BLOCK];
     let mut hints = [0u8; Graph::MAX_VERTICES];
     let entries = side + n + 1;
-    blocks_fault(
+    blocks_reversed(
         store,
         n,
         other,

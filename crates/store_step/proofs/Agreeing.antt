@@ -13,9 +13,8 @@ use Rattle.lists.proofs.All.{all-at, all_get_d, get_or-all}
 use Rattle.lists.proofs.Sort.{ascending-at, at-ascending}
 use Rattle.adjacency.specs.Inner.Side.{list_on}
 use Rattle.adjacency.specs.Inner.Portion.{member}
-use Rattle.store_reverse.specs.Inner.Check.{unless, reverse, entry_fits, list_fits, side_fits, list_reversed, side_reversed}
+use Rattle.store_reverse.specs.Inner.Check.{reverse, entry_fits, list_fits, side_fits, list_reversed, side_reversed}
 use Rattle.store_step.specs.Inner.Walk.{before, sides_agree, Refutes}
-use Rattle.store_reverse.proofs.Loops.{answer-fails}
 
 -- ---- a list
 
@@ -87,16 +86,14 @@ module _ (store : List ℕ) (n other v : ℕ) (s : List ℕ) (i : ℕ) (l : i < 
       (all_get_d (λ (k : ℕ). member (reverse v k) (list_on store n other (k % 65536))) s i 0 l (and_r (list_fits n s) (list_reversed store n other v s) t)) e)
 
   -- The answers to the tests of both.
-  module _ {r : ℕ} where
-    pub entry-refutes : {last : ℕ} → last ≡ before s i → r ≡ unless (entry_fits n last (get_or s i 0)) → (r ≡ 0 → ⊥)
-        → Refutes r (list_fits n s && list_reversed store n other v s)
-    entry-refutes {last} q e h one =
-        let f : entry_fits n last (get_or s i 0) ≡ false = answer-fails (entry_fits n last (get_or s i 0)) e h in
-        (e ∙ ap unless f, entry-breaks (ap (λ (k : ℕ). entry_fits n k (get_or s i 0)) (sym q) ∙ f))
+  pub entry-refutes : {last : ℕ} → last ≡ before s i → {r : Bool} → r ≡ entry_fits n last (get_or s i 0) → r ≡ false
+      → Refutes 19 (list_fits n s && list_reversed store n other v s)
+  entry-refutes {last} q e h one =
+      (refl, entry-breaks (ap (λ (k : ℕ). entry_fits n k (get_or s i 0)) (sym q) ∙ sym e ∙ h))
 
-    pub reverse-refutes : {list : List ℕ} → list ≡ list_on store n other (get_or s i 0 % 65536) → Refutes r (member (reverse v (get_or s i 0)) list)
-        → Refutes r (list_fits n s && list_reversed store n other v s)
-    reverse-refutes q g one = ((g one).0, reverse-lacks (ap (member (reverse v (get_or s i 0))) (sym q) ∙ (g one).1))
+  pub reverse-refutes : {list : List ℕ} → list ≡ list_on store n other (get_or s i 0 % 65536) → {r : Bool}
+      → r ≡ member (reverse v (get_or s i 0)) list → r ≡ false → Refutes 19 (list_fits n s && list_reversed store n other v s)
+  reverse-refutes q e h one = (refl, reverse-lacks (ap (member (reverse v (get_or s i 0))) (sym q) ∙ sym e ∙ h))
 
 -- ---- both sides
 

@@ -3,3 +3,4 @@ pub mod Agreeing
 pub mod Matching
 pub mod Stepping
 pub mod Walking
+pub mod Stops

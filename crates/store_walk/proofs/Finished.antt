@@ -13,7 +13,7 @@ use Rattle.lists.proofs.All.{all-range, get_or-all}
 use Rattle.adjacency.specs.Inner.Side.{list_on, Within}
 use Rattle.adjacency.specs.Inner.Portion.{member}
 use Rattle.store_reverse.specs.Inner.Check.{unless, reverse, list_fits, side_fits, list_reversed, side_reversed}
-use Rattle.store_reverse.proofs.Loops.{passes, refused}
+use Rattle.store_step.proofs.Stops.{passes, refused}
 use Rattle.store_reverse.proofs.Offsets.{Rising, offsets-rising, offsets-within, offset-le}
 use Rattle.store_step.specs.Inner.Walk.{before, sides_agree, Outcome, Decides, Word, Arrived, Done, WalkedIn, BothRise, Sides, Ended}
 use Rattle.store_step.proofs.Agreeing.{at-fits, member-at, agree}

@@ -1,19 +1,19 @@
 // Whether the sides of a store agree, with no search, where there are few labels: the entries are walked
 // by ascending (label, vertex), so that those which lead to a vertex arrive in the order of its list on
 // the other side, and a cursor for each vertex tells the next. A step of it is `store_step`. It is a part
-// of 19 (document 01, 'Operations and their refusals', Run): an answer of 0 or 19 is the store check's;
-// `UNDECIDED` leaves it to a search.
+// of 19 (document 01, 'Operations and their refusals', Run); where it is undecided, a search decides.
 #![tactic(auto)]
 
 pub mod passes;
 
-ghost use Rattle.std.specs.Prelude.{◌≡◌, ℕ, suc, ◌+◌, ◌≤◌, ◌<◌, length, get_or};
+ghost use Rattle.std.specs.Prelude.{◌≡◌, true, ℕ, suc, ◌+◌, ◌≤◌, ◌<◌, length, get_or};
 ghost use Rattle.graph.specs.Graph.{max_graph_vertices, max_graph_edges};
-ghost use Rattle.store_step.specs.Inner.Walk.{sides_agree, Decides, BothRise, Tables, Ended};
+ghost use Rattle.store_step.specs.Inner.Stops.{stop_of};
+ghost use Rattle.store_step.specs.Inner.Walk.{sides_agree, Decides, BothRise, Blocks, Tables, Ended};
 
 use crate::passes::label_passes;
 use graph::Graph;
-use store_step::UNDECIDED;
+use store_step::Stop;
 
 // Tables of three sizes, by how many vertices they serve, so that those of a small store are soon made; and
 // the words of their sets.
@@ -33,57 +33,35 @@ const FEW_LABELS: usize = 16;
 // One entry of so many is sampled.
 const SAMPLE: usize = 16;
 
-// 1 where word i of one slice is not that of the other, else 0: sums of these take no branch.
-fn is_apart(one: &[u32], two: &[u32], i: usize) -> u32
-    requires { (i < length one.now) × (i < length two.now) }
-    ensures { (result ≡ 0 → get_or one.now i 0 ≡ get_or two.now i 0) × (result ≤ 1) }
-{
-    (one[i] != two[i]) as u32
-}
-
-// How many cursors do not stand where their list ends; where none does, all stand there.
-fn cursors_apart(cursors: &[u32], ends: &[u32]) -> u32
+// Whether each cursor stands where its list ends. The sum takes no branch.
+fn at_ends(cursors: &[u32], ends: &[u32]) -> bool
     requires { (length ends.now ≤ length cursors.now) × (length ends.now ≤ max_graph_vertices) }
-    ensures { result ≡ 0 → (t : ℕ) → t < length ends.now
+    ensures { result ≡ true → (t : ℕ) → t < length ends.now
         → get_or cursors.now t 0 ≡ get_or ends.now t 0 }
 {
-    let mut sum = 0;
-    let mut i = 0;
-    while i < ends.len() {
-        sum += is_apart(cursors, ends, i);
-        i += 1;
+    let mut apart = 0;
+    for (i, end) in ends.iter().enumerate() {
+        apart += (cursors[i] != *end) as u32;
     }
-    sum
+    apart == 0
 }
 
-// 1 where entries of vertex v are not done, else 0: sums of these take no branch.
-fn is_left(starts: &[u32], done: &[u16], v: usize) -> u32
-    requires { (suc v < length starts.now) × (v < length done.now)
-        × (get_or starts.now v 0 ≤ max_graph_edges) }
-    ensures { (result ≡ 0 → get_or starts.now (suc v) 0
-        ≤ get_or starts.now v 0 + get_or done.now v 0) × (result ≤ 1) }
-{
-    (starts[v] + (done[v] as u32) < starts[v + 1]) as u32
-}
-
-// How many vertices have entries that are not done; where none has, all are done.
-fn vertices_left(starts: &[u32], done: &[u16], n: usize) -> u32
+// Whether all entries of each vertex are done. The sum takes no branch.
+fn all_done(starts: &[u32], done: &[u16], n: usize) -> bool
     requires { (length starts.now ≡ suc n) × (n ≤ length done.now) × (n ≤ max_graph_vertices)
         × ((v : ℕ) → v < n → get_or starts.now v 0 ≤ max_graph_edges) }
-    ensures { result ≡ 0 → (v : ℕ) → v < n → get_or starts.now (suc v) 0
+    ensures { result ≡ true → (v : ℕ) → v < n → get_or starts.now (suc v) 0
         ≤ get_or starts.now v 0 + get_or done.now v 0 }
 {
-    let mut sum = 0;
-    let mut v = 0;
-    while v < n {
-        sum += is_left(starts, done, v);
-        v += 1;
+    let mut left = 0;
+    for v in 0..n {
+        left += (starts[v] + (done[v] as u32) < starts[v + 1]) as u32;
     }
-    sum
+    left == 0
 }
 
-// 0 where every cursor stands at its end and every entry is done, else undecided.
-fn ends_fault(
+// Passes where every cursor stands at its end and every entry is done; else that is undecided.
+fn check_ends(
     store: &[u32],
     n: usize,
     m: usize,
@@ -91,22 +69,21 @@ fn ends_fault(
     other: usize,
     cursors: &[u32],
     done: &[u16],
-) -> u32
+) -> Result<(), Stop>
     requires { BothRise store.now n m side other × (n ≤ length cursors.now)
         × (n ≤ length done.now) }
-    ensures { Ended store.now n side other cursors.now done.now result }
+    ensures { Ended store.now n side other cursors.now done.now (stop_of result) }
 {
-    if cursors_apart(cursors, &store[other + 1..other + 1 + n]) != 0 {
-        return UNDECIDED;
+    if !at_ends(cursors, &store[other + 1..other + 1 + n])
+        || !all_done(&store[side..side + n + 1], done, n)
+    {
+        return Err(Stop::Undecided);
     }
-    if vertices_left(&store[side..side + n + 1], done, n) != 0 {
-        return UNDECIDED;
-    }
-    0
+    Ok(())
 }
 
 // The walk, with tables in which no entry is done.
-fn walk_fault(
+fn walk(
     store: &[u32],
     n: usize,
     m: usize,
@@ -115,88 +92,75 @@ fn walk_fault(
     cursors: &mut [u32],
     done: &mut [u16],
     sets: &mut [u64],
-) -> u32
+) -> Result<(), Stop>
     requires both_rise { BothRise store.now n m side other × Tables n cursors.old done.old sets.old }
     requires by_index { (v : ℕ) → v < n → get_or done.old v 0 ≡ 0 }
-    ensures { Decides result (sides_agree store.now n side other) }
+    ensures { Decides (stop_of result) (sides_agree store.now n side other) }
 {
     words::copy(&store[other..other + n], n, cursors);
     let entries = other + n + 1;
     let back = &store[entries..entries + m];
-    let fault = label_passes(store, n, side, other, back, cursors, done, sets);
-    if fault != 0 {
-        return fault;
-    }
-    ends_fault(store, n, m, side, other, cursors, done)
+    label_passes(store, n, side, other, back, cursors, done, sets)?;
+    check_ends(store, n, m, side, other, cursors, done)
 }
 
-fn few_vertices_fault(store: &[u32], n: usize, m: usize, side: usize, other: usize) -> u32
-    requires { BothRise store.now n m side other × (n ≤ 1024) }
-    ensures { Decides result (sides_agree store.now n side other) }
+// The walk, with tables of so many vertices, and so many words of sets.
+fn walk_within<const VERTICES: usize, const SETS: usize>(
+    store: &[u32],
+    n: usize,
+    m: usize,
+    side: usize,
+    other: usize,
+) -> Result<(), Stop>
+    requires { BothRise store.now n m side other × (n ≤ VERTICES) × Blocks n SETS
+        × (VERTICES ≤ max_graph_vertices) × (SETS ≤ max_graph_vertices) }
+    ensures { Decides (stop_of result) (sides_agree store.now n side other) }
 {
-    let mut cursors = [0u32; FEW_VERTICES];
-    let mut done = [0u16; FEW_VERTICES];
-    let mut sets = [0u64; FEW_SETS];
-    walk_fault(store, n, m, side, other, &mut cursors, &mut done, &mut sets)
+    let mut cursors = [0u32; VERTICES];
+    let mut done = [0u16; VERTICES];
+    let mut sets = [0u64; SETS];
+    walk(store, n, m, side, other, &mut cursors, &mut done, &mut sets)
 }
 
-fn some_vertices_fault(store: &[u32], n: usize, m: usize, side: usize, other: usize) -> u32
-    requires { BothRise store.now n m side other × (n ≤ 8192) }
-    ensures { Decides result (sides_agree store.now n side other) }
-{
-    let mut cursors = [0u32; SOME_VERTICES];
-    let mut done = [0u16; SOME_VERTICES];
-    let mut sets = [0u64; SOME_SETS];
-    walk_fault(store, n, m, side, other, &mut cursors, &mut done, &mut sets)
-}
-
-fn many_vertices_fault(store: &[u32], n: usize, m: usize, side: usize, other: usize) -> u32
-    requires { BothRise store.now n m side other }
-    ensures { Decides result (sides_agree store.now n side other) }
-{
-    let mut cursors = [0u32; Graph::MAX_VERTICES];
-    let mut done = [0u16; Graph::MAX_VERTICES];
-    let mut sets = [0u64; MANY_SETS];
-    walk_fault(store, n, m, side, other, &mut cursors, &mut done, &mut sets)
-}
-
-// How many labels the sampled entries have, up to one more than few.
-fn sampled_labels(entries: &[u32]) -> usize
+// Whether the sampled entries have few labels.
+fn few_labels(entries: &[u32]) -> bool
     requires { length entries.now ≤ max_graph_edges }
 {
-    let mut seen = [0u8; 256];
+    let mut seen = [false; 256];
     let mut labels = 0;
-    let mut i = 0;
-    while i < entries.len() {
+    for i in (0..entries.len()).step_by(SAMPLE) {
         let label = (entries[i] / Graph::SPAN % 256) as usize;
-        if seen[label] != 0 {
-            i += SAMPLE;
-        } else {
+        if !seen[label] {
             if labels == FEW_LABELS {
-                return labels + 1;
+                return false;
             }
-            seen[label] = 1;
+            seen[label] = true;
             labels += 1;
-            i += SAMPLE;
         }
     }
-    labels
+    true
 }
 
-// 0 where the sides of a store agree, 19 where they do not; undecided where that takes a search.
-pub fn agreement_fault(store: &[u32], n: usize, m: usize, side: usize, other: usize) -> u32
+// Whether the sides of a store agree: passes where they do, and is undecided where that takes a search.
+pub fn check_agreement(
+    store: &[u32],
+    n: usize,
+    m: usize,
+    side: usize,
+    other: usize,
+) -> Result<(), Stop>
     requires { BothRise store.now n m side other }
-    ensures { Decides result (sides_agree store.now n side other) }
+    ensures { Decides (stop_of result) (sides_agree store.now n side other) }
 {
     let entries = side + n + 1;
-    if FEW_LABELS < sampled_labels(&store[entries..entries + m]) {
-        return UNDECIDED;
+    if !few_labels(&store[entries..entries + m]) {
+        return Err(Stop::Undecided);
     }
     if n <= FEW_VERTICES {
-        return few_vertices_fault(store, n, m, side, other);
+        return walk_within::<FEW_VERTICES, FEW_SETS>(store, n, m, side, other);
     }
     if n <= SOME_VERTICES {
-        return some_vertices_fault(store, n, m, side, other);
+        return walk_within::<SOME_VERTICES, SOME_SETS>(store, n, m, side, other);
     }
-    many_vertices_fault(store, n, m, side, other)
+    walk_within::<{ Graph::MAX_VERTICES }, MANY_SETS>(store, n, m, side, other)
 }

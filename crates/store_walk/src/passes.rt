@@ -1,14 +1,15 @@
 // All vertices, label by label. A vertex waits in the set of its next entry's label; which set that is, and
 // which vertices are in it, decides how soon an answer comes, and not which.
-ghost use Rattle.std.specs.Prelude.{◌≡◌, ◌+◌, ◌*◌, ◌≤◌, ◌<◌, length};
+ghost use Rattle.std.specs.Prelude.{◌≡◌, ℕ, Some, ◌+◌, ◌*◌, ◌≤◌, ◌<◌, length};
 ghost use Rattle.graph.specs.Graph.{max_graph_vertices, entry_span, entry_end};
 ghost use Rattle.bitset.specs.Inner.Set.{lowest_bit};
+ghost use Rattle.store_step.specs.Inner.Stops.{stop_of};
 ghost use Rattle.store_step.specs.Inner.Walk.{sides_agree, Outcome, WalkedIn, StepFrom};
 ghost use Rattle.store_step.specs.Inner.Walk.{Sides, Blocks, Tables, Labelled};
 
 use bitset::{lowest, without_lowest};
 use graph::Graph;
-use store_step::{UNDECIDED, advance};
+use store_step::{Stop, advance};
 
 // So many sets are kept, each in words of 64 vertices; word i of set k is word i * SETS + k.
 const SETS: usize = 16;
@@ -18,38 +19,25 @@ const WORD: usize = 64;
 // Labels are below this.
 const LABELS: usize = 256;
 
-const ALL: u64 = 18446744073709551615;
-
-// A set's number as a place.
-fn wide(set: u8) -> usize
-    ensures { result ≡ set }
-{
-    set as usize
-}
-
-// The set of a label: the one that it has, or a new one; SETS or above where none is left. `sets_of` has one
-// more than its number for each label, and for label 0 how many there are.
-fn set_of(label: usize, sets_of: &mut [u8; LABELS]) -> usize
+// The set of a label: the one that it has, or a new one, if one is left. `sets_of` has one more than its number
+// for each label, and for label 0 how many there are.
+fn set_of(label: usize, sets_of: &mut [u8; LABELS]) -> Option<usize>
     requires { label < 256 }
+    ensures { (set : ℕ) → result ≡ Some set → set < 16 }
 {
-    let set = wide(sets_of[label]);
-    if set != 0 {
-        return set - 1;
+    let mut next = sets_of[label] as usize;
+    if next == 0 {
+        next = sets_of[0] as usize + 1;
+        if SETS < next {
+            return None;
+        }
+        sets_of[0] = next as u8;
+        sets_of[label] = next as u8;
     }
-    let used = wide(sets_of[0]);
-    if SETS <= used {
-        return used;
+    if SETS < next {
+        return None;
     }
-    sets_of[0] = (used + 1) as u8;
-    sets_of[label] = (used + 1) as u8;
-    used
-}
-
-// Sets one bit of one word.
-fn add_bit(sets: &mut [u64], i: usize, b: usize)
-    requires { (i < length sets.old) × (b < 64) }
-{
-    sets[i] = sets[i] | (1u64 << b);
+    Some(next - 1)
 }
 
 // Vertex v of the label whose entries begin at `base`; then it waits for its next one.
@@ -65,26 +53,20 @@ fn vertex_pass(
     done: &mut [u16],
     sets: &mut [u64],
     sets_of: &mut [u8; LABELS],
-) -> u32
+) -> Result<(), Stop>
     requires sides { Sides store.now n side other back.now × Tables n cursors.old done.old sets.old }
     requires step_from { StepFrom store.now n side other back.now base v cursors.old done.old }
-    ensures { Outcome result (sides_agree store.now n side other)
+    ensures { Outcome (stop_of result) (sides_agree store.now n side other)
         (WalkedIn store.now n side other back.now
         cursors.new done.new (base + v + 1)) }
 {
-    let s = advance(store, n, side, other, back, base, v, cursors, done);
-    if s.fault != 0 {
-        return s.fault;
+    if let Some(label) = advance(store, n, side, other, back, base, v, cursors, done)? {
+        match set_of(label as usize, sets_of) {
+            Some(set) => sets[v / WORD * SETS + set] |= 1u64 << (v % WORD),
+            None => return Err(Stop::Undecided),
+        }
     }
-    if s.label == 0 {
-        return 0;
-    }
-    let set = set_of(s.label as usize, sets_of);
-    if SETS <= set {
-        return UNDECIDED;
-    }
-    add_bit(sets, v / WORD * SETS + set, v % WORD);
-    0
+    Ok(())
 }
 
 // The vertices of a word of a set, ascending.
@@ -101,12 +83,12 @@ fn word_pass(
     done: &mut [u16],
     sets: &mut [u64],
     sets_of: &mut [u8; LABELS],
-) -> u32
+) -> Result<(), Stop>
     requires sides { Sides store.now n side other back.now × Tables n cursors.old done.old sets.old }
     requires labelled { Labelled base × (64 * i < n) }
     requires walked_in { WalkedIn store.now n side other back.now cursors.old done.old
         (base + 64 * i + lowest_bit word) }
-    ensures { Outcome result (sides_agree store.now n side other)
+    ensures { Outcome (stop_of result) (sides_agree store.now n side other)
         (WalkedIn store.now n side other back.now
         cursors.new done.new (base + 64 * i + 64)) }
 {
@@ -114,17 +96,14 @@ fn word_pass(
     while 0 < w {
         let v = i * WORD + lowest(w) as usize;
         if n <= v {
-            return 0;
+            return Ok(());
         }
-        let fault = vertex_pass(
+        vertex_pass(
             store, n, side, other, back, base, v, cursors, done, sets, sets_of,
-        );
-        if fault != 0 {
-            return fault;
-        }
+        )?;
         w = without_lowest(w);
     }
-    0
+    Ok(())
 }
 
 // The vertices of a label's set, ascending; none where it has no set.
@@ -139,44 +118,37 @@ fn label_pass(
     done: &mut [u16],
     sets: &mut [u64],
     sets_of: &mut [u8; LABELS],
-) -> u32
+) -> Result<(), Stop>
     requires sides { Sides store.now n side other back.now × Tables n cursors.old done.old sets.old }
     requires label_nonzero { (0 < label) × (label < 256) }
     requires walked_in { WalkedIn store.now n side other back.now cursors.old done.old (label * entry_span) }
-    ensures { Outcome result (sides_agree store.now n side other)
+    ensures { Outcome (stop_of result) (sides_agree store.now n side other)
         (WalkedIn store.now n side other back.now
         cursors.new done.new (label * entry_span + entry_span)) }
 {
-    let set = wide(sets_of[label]);
+    let set = sets_of[label] as usize;
     if set == 0 {
-        return 0;
+        return Ok(());
     }
     if SETS < set {
-        return UNDECIDED;
+        return Err(Stop::Undecided);
     }
     let base = label as u32 * Graph::SPAN;
-    let mut i = 0;
-    while i * WORD < n {
+    for i in 0..n.div_ceil(WORD) {
         let word = sets[i * SETS + set - 1];
-        let fault = word_pass(
+        word_pass(
             store, n, side, other, back, base, i, word, cursors, done, sets, sets_of,
-        );
-        if fault != 0 {
-            return fault;
-        }
-        i += 1;
+        )?;
     }
-    0
+    Ok(())
 }
 
 // All vertices wait in the first set.
 fn all_wait(n: usize, sets: &mut [u64])
     requires { (n ≤ max_graph_vertices) × Blocks n (length sets.old) }
 {
-    let mut i = 0;
-    while i * WORD < n {
-        sets[i * SETS] = ALL;
-        i += 1;
+    for i in 0..n.div_ceil(WORD) {
+        sets[i * SETS] = u64::MAX;
     }
 }
 
@@ -190,10 +162,10 @@ pub fn label_passes(
     cursors: &mut [u32],
     done: &mut [u16],
     sets: &mut [u64],
-) -> u32
+) -> Result<(), Stop>
     requires sides { Sides store.now n side other back.now × Tables n cursors.old done.old sets.old }
     requires walked_in { WalkedIn store.now n side other back.now cursors.old done.old entry_span }
-    ensures { Outcome result (sides_agree store.now n side other)
+    ensures { Outcome (stop_of result) (sides_agree store.now n side other)
         (WalkedIn store.now n side other back.now
         cursors.new done.new entry_end) }
 {
@@ -201,9 +173,8 @@ pub fn label_passes(
     sets_of[0] = 1;
     sets_of[1] = 1;
     all_wait(n, sets);
-    let mut label = 1;
-    while label < LABELS {
-        let fault = label_pass(
+    for label in 1..LABELS {
+        label_pass(
             store,
             n,
             side,
@@ -214,11 +185,7 @@ pub fn label_passes(
             done,
             sets,
             &mut sets_of,
-        );
-        if fault != 0 {
-            return fault;
-        }
-        label += 1;
+        )?;
     }
-    0
+    Ok(())
 }

@@ -2,7 +2,8 @@
 use mathlib.Core.Path.{◌≡◌, refl, ◌∙◌, ap}
 use Prim.Native.Nat.{ℕ}
 use native.Mathlib.Omega.{arith}
-use Rattle.lists.specs.Lists.{range, count_if}
+use Rattle.lists.specs.Lists.{bit, range, count_if}
+use Rattle.lists.proofs.Bits.{bit_le}
 use Rattle.store_check.specs.Inner.Order.{start_falls}
 use Rattle.store_check.proofs.Order.{starts-next}
 use Rattle.store_check.proofs.starts_fall.Goals as goal
@@ -11,14 +12,17 @@ pub loop-v-init : goal.loop-v-init
 unfolding count_if range
 loop-v-init c = (omega arith, omega arith, refl)
 
-pub start_falls-sum-requires : goal.start_falls-sum-requires
-start_falls-sum-requires c = c.requires.0 c.loop-v.v (omega arith)
+pub start_falls-requires : goal.start_falls-requires
+start_falls-requires c = c.requires.0 c.loop-v.v (omega arith)
 
 pub loop-v-preserved : goal.loop-v-preserved
 loop-v-preserved c = let a = c.args in
-    (omega arith, omega arith, starts-next a.store.now a.n a.side c.loop-v.v c.loop-v.invariant.2 c.start_falls-sum.ensures.0)
+    (omega arith, omega (arith, bit_le c.start_falls.result), starts-next a.store.now a.n a.side c.loop-v.v c.loop-v.invariant.2 (ap bit c.start_falls.ensures))
 
 pub returns : goal.returns
 returns c = let a = c.args in
     c.loop-v.invariant.2
     ∙ ap (λ (k : ℕ). count_if (start_falls a.store.now a.n a.side) (range k)) (let e : c.loop-v.v ≡ a.n = omega arith in e)
+
+pub overflow_add-sum : goal.overflow_add-sum
+overflow_add-sum c = omega (arith, bit_le c.start_falls.result)

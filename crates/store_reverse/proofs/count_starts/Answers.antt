@@ -1,21 +1,24 @@
 -- `store_reverse::count_starts` meets its contract: the lists of the vertices below v are counted. Assumes nothing.
 use mathlib.Core.Path.{refl, ◌∙◌, ap}
-use Prim.Native.Nat.{ℕ, ◌-◌, ◌≤◌, ◌<◌}
+use Prim.Native.Nat.{ℕ, ◌≤◌, ◌<◌}
 use native.Mathlib.Omega.{arith}
 use lib.ListN.{get_or, replicate}
 use Rattle.counting_sort.proofs.Counting.{tallied-fits, tallied-more}
 use Rattle.store_reverse.specs.Inner.Begun.{start_in}
-use Rattle.store_reverse.proofs.Blocks.{next-few, start_small, not-before, tallied-first, tallied-passed, tallied-all}
+use Rattle.store_reverse.proofs.Blocks.{next-few, starts-some, start_small, not-before, tallied-first, tallied-passed, tallied-all}
 use Rattle.store_reverse.proofs.count_starts.Goals as goal
 
 pub overflow_cast-counts : goal.overflow_cast-counts
 overflow_cast-counts c = let h = c.requires.0 in omega (arith, next-few h, h.few)
 
 pub bounds-counts-0 : goal.bounds-counts-0
-bounds-counts-0 c = omega (arith, c.clear.auto.part, c.requires.1)
+bounds-counts-0 c = omega (arith, c.fill.auto.self, c.requires.1)
+
+pub overflow_sub-v-end : goal.overflow_sub-v-end
+overflow_sub-v-end c = starts-some c.requires.0
 
 pub loop-v-init : goal.loop-v-init
-loop-v-init c = (omega arith, next-few c.requires.0, tallied-first c.requires.0 (c.clear.ensures ∙ ap (λ (k : ℕ). replicate {A = ℕ} k 0) c.requires.1))
+loop-v-init c = (omega arith, next-few c.requires.0, tallied-first c.requires.0 (c.fill.ensures.after (λ y e. e) ∙ ap (λ (k : ℕ). replicate {A = ℕ} k 0) c.requires.1))
 
 pub overflow_cast-at : goal.overflow_cast-at
 overflow_cast-at c = omega (arith, start_small c.requires.0 c.loop-v.v (omega arith))

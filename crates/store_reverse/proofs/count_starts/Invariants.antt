@@ -7,6 +7,3 @@ use Rattle.store_reverse.proofs.count_starts.Given as goal
 
 abbrev pub invariant-loop-v : goal.invariant-loop-v
 invariant-loop-v l = (l.next ≤ l.v) × (l.v ≤ length l.starts - 1) × Tallied (start_in l.starts l.base) 1024 l.v l.counts
-
-abbrev pub decreases-loop-v : goal.decreases-loop-v
-decreases-loop-v l = length l.starts - l.v

@@ -1,10 +1,10 @@
 -- `store_step::matched` meets its contract: the entries up to i are matched, and `last` is the last of them. Assumes nothing.
-use Prim.Native.Nat.{◌-◌}
+use mathlib.Core.Path.{◌≡◌, refl, subst}
+use Prim.Native.Nat.{ℕ}
+use lib.ListN.{length}
+use Rattle.store_step.specs.Inner.Walk.{Matched}
 use native.Mathlib.Omega.{arith}
 use Rattle.store_step.proofs.Matching.{matching-start, matching-next}
-use Rattle.store_step.proofs.matched.Reads as reads
-use Rattle.store_step.proofs.matched.Lts as lts
-use Rattle.store_step.proofs.wide.Reads as wide-reads
 use Rattle.store_step.proofs.matched.Goals as goal
 
 pub loop-i-init : goal.loop-i-init
@@ -13,21 +13,17 @@ loop-i-init c = matching-start (omega arith) (omega arith)
 pub returns-then-limit-entry : goal.returns-then-limit-entry
 returns-then-limit-entry c = c.loop-i.invariant.so_far
 
-pub returns-then-entry-last : goal.returns-then-entry-last
-returns-then-entry-last c = c.loop-i.invariant.so_far
-
 pub returns-then-n-x : goal.returns-then-n-x
 returns-then-n-x c = c.loop-i.invariant.so_far
 
 pub returns-then-back-at : goal.returns-then-back-at
 returns-then-back-at c = c.loop-i.invariant.so_far
 
-pub returns-then-back-at-2 : goal.returns-then-back-at-2
-returns-then-back-at-2 c = c.loop-i.invariant.so_far
-
 pub loop-i-preserved : goal.loop-i-preserved
-loop-i-preserved c = matching-next c.loop-i.invariant (omega arith) (omega arith) (omega arith) (omega arith) (omega (arith, c.loop-i.invariant.long)) c.wide-at.ensures
+loop-i-preserved c = matching-next c.loop-i.invariant (omega arith) (omega arith) (omega arith) (omega arith) (omega (arith, c.loop-i.invariant.long)) refl
     c.if-back-at-2.false
 
 pub returns : goal.returns
-returns c = c.loop-i.invariant.so_far
+returns c = let a = c.args in
+    subst (λ (k : ℕ). Matched a.n a.v a.base a.list.now a.back.now a.from k a.cursors.now c.loop-i.cursors)
+    (let e : c.loop-i.i ≡ length a.list.now = omega (arith, c.loop-i.invariant.so_far.inside) in e) c.loop-i.invariant.so_far

@@ -1,6 +1,5 @@
 -- `store_walk::passes::all_wait` meets its contract: the words that it writes are there. Assumes nothing.
 use mathlib.Core.Path.{refl}
-use Prim.Native.Nat.{◌-◌}
 use native.Mathlib.Omega.{arith}
 use lib.ListN.{length-set}
 use Rattle.store_step.proofs.Stepping.{block_in}
@@ -10,7 +9,7 @@ pub loop-i-init : goal.loop-i-init
 loop-i-init c = (omega arith, refl)
 
 pub bounds-sets-i : goal.bounds-sets-i
-bounds-sets-i c = omega (arith, c.loop-i.invariant.1, block_in {set = 0} c.requires.1 c.loop-i.i c.loop-i-test.true (omega arith))
+bounds-sets-i c = omega (arith, c.loop-i.invariant.1, block_in {set = 0} c.requires.1 c.loop-i.i (omega (arith, c.div_ceil-i-end.ensures)) (omega arith))
 
 pub loop-i-preserved : goal.loop-i-preserved
 loop-i-preserved c = (omega arith, simp length-set c.loop-i.invariant.1)

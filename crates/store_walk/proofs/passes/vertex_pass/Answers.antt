@@ -1,22 +1,28 @@
 -- `store_walk::passes::vertex_pass` meets its contract: the answer is that of the step, or undecided. Assumes nothing.
-use native.Mathlib.Omega.{arith}
+use mathlib.Core.Path.{refl}
+use Rattle.std.proofs.lemmas.Result.{err_from_is_err_and}
+use Rattle.store_step.proofs.Stops.{stopped}
 use Rattle.store_step.proofs.Stepping.{undecided, passes_on, handed, word_in}
 use Rattle.store_walk.proofs.passes.vertex_pass.Goals as goal
 
-pub advance-s-requires : goal.advance-s-requires
-advance-s-requires c = record { sides = c.requires.sides.0; step_from = c.requires.step_from }
+pub advance-requires : goal.advance-requires
+advance-requires c = record { sides = c.requires.sides.0; step_from = c.requires.step_from }
 
-pub returns-then-s-ne0 : goal.returns-then-s-ne0
-returns-then-s-ne0 c = handed c.advance-s.ensures.outcome c.if-s-ne0.true
+pub returns-in_err-label : goal.returns-in_err-label
+returns-in_err-label c = let p = err_from_is_err_and c.from_residual.result c.from_residual.ensures.1 in
+    rw (p.1, p.2) (handed c.in_err-label.ensures.outcome (stopped _))
 
-pub returns-then-s-eq0 : goal.returns-then-s-eq0
-returns-then-s-eq0 c = passes_on c.advance-s.ensures.outcome c.if-s-ne0.false
+pub set_of-requires : goal.set_of-requires
+set_of-requires c = rw (c.in_ok-label.was, c.in-Some.is) at c.advance.ensures.narrow
 
-pub returns-then-set-ge-SETS : goal.returns-then-set-ge-SETS
-returns-then-set-ge-SETS c = undecided
+pub bounds-sets-v : goal.bounds-sets-v
+bounds-sets-v c = word_in c.requires.sides.1.sets_fit c.requires.step_from.vertex_in (c.set_of.ensures _ c.in-Some-set_of.is)
 
-pub add_bit-requires : goal.add_bit-requires
-add_bit-requires c = (word_in c.requires.sides.1.sets_fit c.requires.step_from.vertex_in c.if-set-ge-SETS.false, omega arith)
+pub returns-in-None : goal.returns-in-None
+returns-in-None c = undecided
 
-pub returns : goal.returns
-returns c = passes_on c.advance-s.ensures.outcome c.if-s-ne0.false
+pub returns-in_default : goal.returns-in_default
+returns-in_default c = passes_on c.in_ok-label.ensures.outcome refl
+
+pub returns-in-Some-set_of : goal.returns-in-Some-set_of
+returns-in-Some-set_of c = passes_on c.in_ok-label.ensures.outcome refl

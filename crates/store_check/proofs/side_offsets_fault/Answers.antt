@@ -1,7 +1,0 @@
--- `store_check::side_offsets_fault` meets its contract: it tests the part of the store that holds them. Assumes nothing.
-use mathlib.Core.Path.{◌∙◌}
-use Rattle.store_check.proofs.Decided.{offsets-part}
-use Rattle.store_check.proofs.side_offsets_fault.Goals as goal
-
-pub returns : goal.returns
-returns c = c.offsets_fault.ensures ∙ offsets-part c.args.store.now c.args.n c.args.m c.args.side
