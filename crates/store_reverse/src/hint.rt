@@ -7,9 +7,10 @@ ghost use Rattle.adjacency.specs.Inner.Portion.{member};
 use graph::Graph;
 use search::find;
 
-// Whether the ascending list of a vertex has a word, by the vertex's hint of where the word stands: the place after the last word hinted, up to a multiple of 256. Lists are walked by ascending
-// vertex, so that of one label the next reverse in a list is the next word. A hint that fails is left, if a
-// word stands there: that may be of another label, and come later. Any hint will do.
+// Whether the ascending list of a vertex has a word, by the vertex's hint of where the word stands: the place
+// after the last word hinted, up to a multiple of 256. Lists are walked by ascending vertex, so that of one
+// label the next reverse in a list is the next word. A hint that fails is left, if a word stands there: that
+// may be of another label, and come later. Any hint will do.
 pub fn has_hinted(
     list: &[u32],
     x: u32,

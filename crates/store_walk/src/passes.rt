@@ -19,8 +19,8 @@ const WORD: usize = 64;
 // Labels are below this.
 const LABELS: usize = 256;
 
-// The set of a label: the one that it has, or a new one, if one is left. `sets_of` has one more than its number
-// for each label, and for label 0 how many there are.
+// The set of a label: the one that it has, or a new one, if one is left. `sets_of` has one more than its
+// number for each label, and for label 0 how many there are.
 fn set_of(label: usize, sets_of: &mut [u8; LABELS]) -> Option<usize>
     requires { label < 256 }
     ensures { (set : ℕ) → result ≡ Some set → set < 16 }
