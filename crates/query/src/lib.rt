@@ -4,14 +4,15 @@
 // `query_file` reads a file; what a match is stands in `matching`.
 #![tactic(auto)]
 
-ghost use Rattle.std.specs.Prelude.{◌≡◌, not, ◌&&◌, ℕ, ◌≤◌, ◌<◌, eqb};
+ghost use Rattle.std.specs.Prelude.{◌≡◌, not, ◌&&◌, map, ℕ, ◌≤◌, ◌<◌, eqb, get_or};
+ghost use Rattle.lists.specs.Lists.{range, any};
 ghost use Rattle.refusals.specs.Refusals.{fault_of};
 ghost use Rattle.lists.specs.Refusal.{refuse};
 ghost use Rattle.graph.specs.Graph.{max_day};
-ghost use Rattle.query.specs.Query.{edge_at, paired, among, between, reached, connected};
-ghost use Rattle.query.specs.File.{max_vertices, max_edges};
+ghost use Rattle.query.specs.Query.{Pair, edge_at, paired, among, between, reached, connected};
+ghost use Rattle.query.specs.File.{max_vertices, max_edges, max_pairs};
 ghost use Rattle.query.specs.Answer.{struct_of, no_query};
-ghost use Rattle.query.specs.Inner.Struct.{edge_struct, as_edge, query_in, Held, filter_of};
+ghost use Rattle.query.specs.Inner.Struct.{edge_struct, as_edge, pair_with, query_in, Held, filter_of};
 ghost use Rattle.query.specs.Inner.Mask.{in_mask, MaskOf, only, neighbours, with_neighbours};
 
 use graph::Graph;
@@ -153,11 +154,7 @@ impl Query {
         requires { Held self × (v < max_vertices) }
         ensures { MaskOf result (λ (w : ℕ). paired (query_in self) w v) }
     {
-        let mut found = 0;
-        for i in 0..self.pairs {
-            found |= pair_end(self.lows[i], self.highs[i], v);
-        }
-        found
+        pair_ends(&self.lows, &self.highs, self.pairs, v)
     }
 
     // The vertices whose data vertices are to be above that of v.
@@ -165,11 +162,7 @@ impl Query {
         requires { Held self × (v < max_vertices) }
         ensures { MaskOf result (λ (w : ℕ). paired (query_in self) v w) }
     {
-        let mut found = 0;
-        for i in 0..self.pairs {
-            found |= pair_end(self.highs[i], self.lows[i], v);
-        }
-        found
+        pair_ends(&self.highs, &self.lows, self.pairs, v)
     }
 
     // The vertices of a set with those that an edge joins to it: one step of reaching.
@@ -241,4 +234,22 @@ fn pair_end(one: u32, other: u32, v: usize) -> u32
     } else {
         0
     }
+}
+
+// Of the first pairs, given by one end and the other, the one end of each whose other is v.
+fn pair_ends(
+    ones: &[u32; Query::MAX_PAIRS],
+    others: &[u32; Query::MAX_PAIRS],
+    pairs: usize,
+    v: usize,
+) -> u32
+    requires { (pairs ≤ max_pairs) × ((i : ℕ) → i < pairs → get_or ones.now i 0 < 32) }
+    ensures { MaskOf result (λ (w : ℕ). any (λ (p : Pair). eqb p.low w && eqb p.high v)
+        (map (pair_with ones.now others.now) (range pairs))) }
+{
+    let mut found = 0;
+    for i in 0..pairs {
+        found |= pair_end(ones[i], others[i], v);
+    }
+    found
 }

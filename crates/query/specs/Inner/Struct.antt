@@ -1,5 +1,5 @@
 -- The query in the structs of the code. Assumes nothing.
-use Rattle.std.specs.Prelude.{Bool, ◌&&◌, map, ℕ, suc, ◌≤◌, ◌<◌, eqb, ltb, get_or, take}
+use Rattle.std.specs.Prelude.{Bool, ◌&&◌, List, map, ℕ, suc, ◌≤◌, ◌<◌, eqb, ltb, get_or, take}
 use Rattle.lists.specs.Lists.{range}
 use Rattle.graph.specs.Graph.{Edge, max_day, max_edge_label}
 use Rattle.query.specs.Query.{Pair, Query}
@@ -27,6 +27,10 @@ edge_of d i =
 -- The pair of an index in a struct.
 abbrev pub pair_of : QueryStruct → ℕ → Pair
 pair_of d i = record { low = get_or d.lows i 0; high = get_or d.highs i 0 }
+
+-- The pair of an index where one end of each stands in a list, and the other in another.
+abbrev pub pair_with : List ℕ → List ℕ → ℕ → Pair
+pair_with ones others i = record { low = get_or ones i 0; high = get_or others i 0 }
 
 -- The query that a struct holds.
 unfoldable pub query_in : QueryStruct → Query
