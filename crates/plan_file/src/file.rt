@@ -59,8 +59,8 @@ fn check_operand(kind: u32, operand: usize, n: usize, m: usize) -> Result<(), Re
     Ok(())
 }
 
-// Field by field, refuses an operator at a position whose bits run out, one of kind 3, and one that names an edge
-// or vertex that the query lacks.
+// Field by field, refuses an operator at a position whose bits run out, one of kind 3, and one that names an
+// edge or vertex that the query lacks.
 fn check_operator(file: &[u8], at: usize, n: usize, m: usize) -> Result<(), Refusal>
     requires { at < 2 ^ 32 }
     ensures { fault_of result ≡ operator_fault (of_size n m) file.now at }

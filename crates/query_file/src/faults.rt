@@ -1,4 +1,5 @@
-// The tests of a query file but the last, whether its query is connected: one function for each part of the file.
+// The tests of a query file but the last, whether its query is connected: one function for each part of the
+// file.
 ghost use Rattle.std.specs.Prelude.{◌≡◌, ◌+◌, ◌*◌, ◌^◌, ◌≤◌, ◌<◌};
 ghost use Rattle.refusals.specs.Refusals.{fault_of};
 ghost use Rattle.packed.specs.Field.{bits_in};
@@ -79,8 +80,8 @@ fn edge_key(file: &[u8], at: usize) -> u32
     field(file, at, 14)
 }
 
-// Refuses the edge at a bit position that has a vertex not below n or equal ends, and one whose key is below the
-// least that ascends.
+// Refuses the edge at a bit position that has a vertex not below n or equal ends, and one whose key is below
+// the least that ascends.
 #[tactic(auto, unfolding(lists::specs::Refusal::first))]
 fn check_edge(file: &[u8], at: usize, n: usize, least: u32) -> Result<(), Refusal>
     requires { (at + 14 ≤ bits_in file.now) × (at + 14 < 2 ^ 64) }
@@ -120,8 +121,8 @@ fn pair_key(file: &[u8], at: usize) -> u32
     field(file, at, 6)
 }
 
-// Refuses the pair at a bit position that has a vertex not below n, equal vertices or a key below the least that
-// ascends.
+// Refuses the pair at a bit position that has a vertex not below n, equal vertices or a key below the least
+// that ascends.
 fn check_pair(file: &[u8], at: usize, n: usize, least: u32) -> Result<(), Refusal>
     requires { (at + 6 ≤ bits_in file.now) × (at + 6 < 2 ^ 64) }
     ensures { fault_of result ≡ pair_key_fault n least (pair_from file.now at) }
