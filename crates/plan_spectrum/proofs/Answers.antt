@@ -6,9 +6,9 @@ use Prim.Native.Nat.{ℕ, suc, ◌+◌, ◌-◌, ◌*◌, ◌≤◌, ◌<◌}
 use native.Mathlib.Omega.{arith}
 use lib.Dec.{eqb, ltb}
 use lib.ListN.{length, drop}
-use borrow.Author.Tests.{ne_eqb, lt-ltb, le-ltb}
+use borrow.Author.Tests.{ne_eqb, ltb-false, lt-ltb, le-ltb}
 use Rattle.lists.specs.Refusal.{refuse, first, answered}
-use Rattle.lists.proofs.Faults.{first-cons, first_some, zero-refuse}
+use Rattle.lists.proofs.Faults.{first-cons, first_head, first_tail, first-left, first_one, first_some, refuse-zero, zero-refuse}
 use Rattle.graph.specs.Graph.{Graph}
 use Rattle.graph.specs.Store.{graph_in, store_fault}
 use Rattle.query.specs.Query.{Query}
@@ -16,7 +16,7 @@ use Rattle.query.specs.File.{query_of, query_fault}
 use Rattle.run_spec.specs.Run.{counted}
 use Rattle.plan_spectrum.specs.Orders.{orderings}
 use Rattle.plan_spectrum.specs.Spectrum.{max_spectrum, entries, limit_fault, orderings_fault, orderings_answer, orderings_words}
-use Rattle.plan_spectrum.specs.Inner.Parts.{Put, laid, Listed, AllRun, Settled}
+use Rattle.plan_spectrum.specs.Inner.Parts.{Put, laid, Listed, AllRun, Settled, early_fault}
 use Rattle.plan_spectrum.specs.declared.OrderingsAnswer.{OrderingsAnswer}
 
 abbrev pub refused_with : ℕ → OrderingsAnswer
@@ -63,25 +63,18 @@ module _ (store query : List ℕ) (scratch : ℕ) (words : List ℕ) where
       let no : eqb k 0 ≡ false = ne_eqb k 0 bad in
       (rw (e, no) refl, rw (e, no) refl)
 
-  pub done-query : (k : ℕ) → k ≡ query_fault query → (k ≡ 0 → ⊥) → Done (refused_with k) words
+  pub done-early : (k : ℕ) → k ≡ early_fault store query → (k ≡ 0 → ⊥) → Done (refused_with k) words
   unfolding orderings_fault
-  done-query k e bad = refused-done k (first_some _ _ (λ z. bad (e ∙ z)) ∙ sym e) bad
+  done-early k e bad =
+      let q = query_of query in
+      let js : List ℕ = query_fault query ∷ refuse 31 (ltb max_spectrum q.vertices) ∷ store_fault store ∷ [] in
+      let ks : List ℕ = refuse 32 (ltb (length words) (length (orderings q) * suc q.vertices)) ∷ map (limit_fault (graph_in store) q scratch) (orderings q) in
+      refused-done k (first-left js ks (λ z. bad (e ∙ z)) ∙ sym e) bad
 
   module _ (read : query_fault query ≡ 0) where
-    pub done-large : max_spectrum < (query_of query).vertices → Done (refused_with 31) words
-    unfolding orderings_fault
-    done-large h =
-        refused-done 31
-        (first-cons _ _ read ∙ ap (λ (b : Bool). first (refuse 31 b ∷ store_fault store ∷ refuse 32 (ltb (length words) (length (orderings (query_of query)) * suc (query_of query).vertices)) ∷ map (limit_fault (graph_in store) (query_of query) scratch) (orderings (query_of query)))) (lt-ltb _ _ h) ∙ first_some 31 _ (λ e. absurd (omega (arith, e))))
-        (λ e. absurd (omega (arith, e)))
-
     module _ (few : (query_of query).vertices ≤ max_spectrum) where
       no-31 : refuse 31 (ltb max_spectrum (query_of query).vertices) ≡ 0
       no-31 = zero-refuse 31 _ (le-ltb _ _ few)
-
-      pub done-store : (k : ℕ) → k ≡ store_fault store → (k ≡ 0 → ⊥) → Done (refused_with k) words
-      unfolding orderings_fault
-      done-store k e bad = refused-done k (first-cons _ _ read ∙ first-cons _ _ no-31 ∙ first_some _ _ (λ z. bad (e ∙ z)) ∙ sym e) bad
 
       module _ (good : store_fault store ≡ 0) (after : List ℕ) (r : OrderingsAnswer) (h : Settled (graph_in store) (query_of query) scratch words after r) where
         same-fault : r.refusal ≡ fault
@@ -94,6 +87,39 @@ module _ (store query : List ℕ) (scratch : ℕ) (words : List ℕ) where
           (λ i. record { refusal = same-fault i; plans = (h.plans ∙ ap (λ (k : ℕ). answered k (length (orderings (query_of query)))) same-fault) i }),
           rw (← same-fault) h.left,
         )
+
+-- The early refusals one by one.
+module _ (store query : List ℕ) where
+  pub early-query : (k : ℕ) → k ≡ query_fault query → (k ≡ 0 → ⊥) → k ≡ early_fault store query
+  early-query k e bad = e ∙ sym (first_some _ _ (λ z. bad (e ∙ z)))
+
+  pub early-large : query_fault query ≡ 0 → max_spectrum < (query_of query).vertices → 31 ≡ early_fault store query
+  early-large read h =
+      sym
+      (first-cons _ _ read ∙ ap (λ (b : Bool). first (refuse 31 b ∷ store_fault store ∷ [])) (lt-ltb _ _ h)
+      ∙ first_some 31 _ (λ e. absurd (omega (arith, e))))
+
+  pub early-store : query_fault query ≡ 0 → (query_of query).vertices ≤ max_spectrum → store_fault store ≡ early_fault store query
+  early-store read few = sym (first-cons _ _ read ∙ first-cons _ _ (zero-refuse 31 _ (le-ltb _ _ few)) ∙ first_one _)
+
+  -- None is given.
+  module _ (none : early_fault store query ≡ 0) where
+    size : ℕ
+    size = refuse 31 (ltb max_spectrum (query_of query).vertices)
+
+    behind : first (size ∷ store_fault store ∷ []) ≡ 0
+    unfolding size
+    behind = first_tail (query_fault query) _ none
+
+    pub early_read : query_fault query ≡ 0
+    early_read = first_head _ _ none
+
+    pub early_few : (query_of query).vertices ≤ max_spectrum
+    unfolding size
+    early_few = ltb-false _ _ (refuse-zero 30 _ (first_head size _ behind))
+
+    pub early_good : store_fault store ≡ 0
+    early_good = first_head _ _ (first_tail size _ behind)
 
 -- A scratch counts as its counted length.
 counted-twice : (n : ℕ) → counted (counted n) ≡ counted n

@@ -14,10 +14,11 @@ ghost use Rattle.plan.specs.Plan.{max_operators};
 ghost use Rattle.plan.specs.Inner.Struct.{operators_in};
 ghost use Rattle.operator_spec.specs.Limit.{max_words};
 ghost use Rattle.run_spec.specs.Run.{run_scratch};
+ghost use Rattle.refusals.specs.Refusals.{fault_of};
 ghost use Rattle.plan_spectrum.specs.Orders.{plan_of};
 ghost use Rattle.plan_spectrum.specs.Spectrum.{orderings_answer, orderings_words};
 ghost use Rattle.plan_spectrum.specs.Claims.{EveryOrderingListed};
-ghost use Rattle.plan_spectrum.specs.Inner.Parts.{Small, Lie, AllRun, Settled};
+ghost use Rattle.plan_spectrum.specs.Inner.Parts.{Small, Lie, AllRun, Settled, early_fault};
 
 use executor::counted;
 use executor::counting::count_run;
@@ -79,15 +80,13 @@ fn run_orderings(
         costs.new result }
 {
     let width = q.vertices - 1;
-    let mut k = 0;
-    while k < plans {
+    for k in 0..plans {
         let plan = plan_at(list, k * width, width);
         let tally = count_run(store, q, plan, true, work);
         if tally.refusal != 0 {
             return tally.refusal;
         }
         costs[k] = tally.cost;
-        k += 1;
     }
     0
 }
@@ -101,7 +100,7 @@ fn write_orderings(store: &[u32], q: Query, work: &mut [u32], words: &mut [u32])
     let mut list = [0u32; OrderingsAnswer::MAX_NUMBERS];
     let plans = listing::list_orderings(q, &mut list);
     if words.len() < plans * (q.vertices + 1) {
-        return OrderingsAnswer::refused(Refusal::ORDERINGS_WORDS);
+        return OrderingsAnswer::refused(Refusal::OrderingsWords.number());
     }
     let mut costs = [0u64; OrderingsAnswer::MAX_PLANS];
     let limit = run_orderings(store, q, &list, plans, work, &mut costs);
@@ -110,6 +109,18 @@ fn write_orderings(store: &[u32], q: Query, work: &mut [u32], words: &mut [u32])
     }
     writing::write_entries(q.vertices - 1, plans, &list, &costs, words);
     OrderingsAnswer { refusal: 0, plans }
+}
+
+// Refuses a query that is not accepted, then one of more vertices than are taken, then a store to which no
+// graph file loads.
+fn check_orderings(store: &[u32], query: &[u8]) -> Result<(), Refusal>
+    ensures { fault_of result ≡ early_fault store.now query.now }
+{
+    query_file::check_query(query)?;
+    if OrderingsAnswer::MAX_VERTICES < query_file::query_of(query).vertices {
+        return Err(Refusal::OrderingsLarge);
+    }
+    store_check::check_store(store)
 }
 
 // All orderings but for the scratch, which is of the counted length and is left as it is.
@@ -125,19 +136,10 @@ fn orderings_counted(
         × (words.new ≡ orderings_words store.now query.now
         (length work.old) words.old) }
 {
-    let fault = query_file::query_fault(query);
-    if fault != 0 {
-        return OrderingsAnswer::refused(fault);
+    match check_orderings(store, query) {
+        Err(refusal) => OrderingsAnswer::refused(refusal.number()),
+        Ok(()) => write_orderings(store, query_file::query_of(query), work, words),
     }
-    let q = query_file::query_of(query);
-    if OrderingsAnswer::MAX_VERTICES < q.vertices {
-        return OrderingsAnswer::refused(Refusal::ORDERINGS_LARGE);
-    }
-    let fault = store_check::store_fault(store);
-    if fault != 0 {
-        return OrderingsAnswer::refused(fault);
-    }
-    write_orderings(store, q, work, words)
 }
 
 // All orderings of a small pattern.

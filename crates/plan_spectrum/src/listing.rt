@@ -34,8 +34,7 @@ fn put_orders(q: Query, set: u32, left: usize, row: [u32; 4], at: usize, out: &m
     }
     let width = at + left;
     let mut found = 0;
-    let mut v = 0;
-    while v < q.vertices {
+    for v in 0..q.vertices {
         if may_extend(q, set, v) {
             let mut next = row;
             next[at] = v as u32;
@@ -47,9 +46,6 @@ fn put_orders(q: Query, set: u32, left: usize, row: [u32; 4], at: usize, out: &m
                 at + 1,
                 &mut out[found * width..],
             );
-            v += 1;
-        } else {
-            v += 1;
         }
     }
     found
@@ -62,8 +58,7 @@ pub fn list_orderings(q: Query, out: &mut [u32]) -> usize
 {
     let width = q.vertices - 1;
     let mut found = 0;
-    let mut i = 0;
-    while i < q.edges {
+    for i in 0..q.edges {
         let mut row = [0u32; 4];
         row[0] = i as u32;
         found += put_orders(
@@ -74,7 +69,6 @@ pub fn list_orderings(q: Query, out: &mut [u32]) -> usize
             1,
             &mut out[found * width..],
         );
-        i += 1;
     }
     found
 }

@@ -32,9 +32,7 @@ pub fn write_entries(width: usize, plans: usize, list: &[u32], costs: &[u64], ou
         out.new }
 {
     let each = width + 2;
-    let mut k = 0;
-    while k < plans {
+    for k in 0..plans {
         put_entry(&list[k * width..], width, costs[k], &mut out[k * each..]);
-        k += 1;
     }
 }

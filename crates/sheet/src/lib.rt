@@ -56,8 +56,8 @@ impl PageAnswer {
     }
 }
 
-// Refuses what is not a match list: n and the rows are tested before their product is taken, and then every word
-// of the rows.
+// Refuses what is not a match list: n and the rows are tested before their product is taken, and then every
+// word of the rows.
 fn check_rows(list: &[u32], n: usize, rows: usize) -> Result<(), Refusal>
     ensures { fault_of result ≡ refuse 33 (bad_rows list.now n rows) }
 {
@@ -79,7 +79,8 @@ fn page_count(rows: usize) -> usize
     rows.div_ceil(PageAnswer::ROWS).max(1)
 }
 
-// Refuses rows that are not a match list's, then a page that is not one of theirs, then too few bytes for one.
+// Refuses rows that are not a match list's, then a page that is not one of theirs, then too few bytes for
+// one.
 fn check_page(list: &[u32], n: usize, rows: usize, page: usize, room: usize) -> Result<(), Refusal>
     ensures { fault_of result ≡ page_fault list.now n rows page room }
 {

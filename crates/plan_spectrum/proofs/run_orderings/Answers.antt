@@ -34,12 +34,6 @@ pub bounds-costs-k : goal.bounds-costs-k
 bounds-costs-k c = let lp = c.loop-k in
     omega (arith, c.requires.room, lp.invariant.costs_kept, c.loop-k-test.true)
 
-pub overflow_add-k : goal.overflow_add-k
-overflow_add-k c = omega (arith, c.loop-k-test.true)
-
-pub loop-k-smaller : goal.loop-k-smaller
-loop-k-smaller c = omega (arith, c.loop-k-test.true)
-
 pub loop-k-preserved : goal.loop-k-preserved
 loop-k-preserved c = let lp = c.loop-k in
     priced-more c.args.store.now c.args.q c.args.list.now c.args.plans c.args.work.now c.args.costs.now c.requires lp.work lp.costs lp.k lp.invariant c.loop-k-test.true c.plan_at-plan.result c.plan_at-plan.ensures.0 c.plan_at-plan.ensures.1 c.count_run-tally.result c.count_run-tally.ensures c.if-tally-ne0.false
@@ -47,4 +41,4 @@ loop-k-preserved c = let lp = c.loop-k in
 
 pub returns : goal.returns
 returns c = let lp = c.loop-k in
-    price-done c.args.store.now c.args.q c.args.list.now c.args.plans c.args.work.now c.args.costs.now c.requires lp.work lp.costs lp.k lp.invariant (λ h. absurd (omega (arith, h, c.loop-k-test.false)))
+    price-done c.args.store.now c.args.q c.args.list.now c.args.plans c.args.work.now c.args.costs.now c.requires lp.work lp.costs lp.k lp.invariant (λ h. absurd (omega (arith, h)))

@@ -7,6 +7,3 @@ use Rattle.plan_spectrum.proofs.run_orderings.Given as goal
 
 abbrev pub invariant-loop-k : goal.invariant-loop-k
 invariant-loop-k l = Priced (graph_in l.store) (query_in l.q) l.initial.work l.work l.initial.costs l.costs l.k
-
-abbrev pub decreases-loop-k : goal.decreases-loop-k
-decreases-loop-k l = l.plans - l.k

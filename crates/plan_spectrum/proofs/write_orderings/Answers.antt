@@ -19,7 +19,7 @@ overflow_mul-plans c = omega (arith, room_small c.args.q c.list_orderings-plans.
 
 pub returns-then-words-plans : goal.returns-then-words-plans
 returns-then-words-plans c = let l = c.list_orderings-plans in
-    rw c.refused.ensures
+    rw (c.refused.ensures, c.number.ensures)
     (settled-short (graph_in c.args.store.now) (query_in c.args.q) (length c.args.work.now) c.args.words.now
     (subst (λ (n : ℕ). length c.args.words.now < n) (entries-room c.args.q l.result l.ensures.0.number) c.if-words-plans.true))
 

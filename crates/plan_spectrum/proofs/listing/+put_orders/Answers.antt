@@ -11,6 +11,7 @@ use Rattle.plan_spectrum.specs.Inner.Parts.{Listed}
 use Rattle.plan_spectrum.proofs.Turning.{leaf, copy-fits, start, found-fits, done, skipped, next-asks, turned, found-small}
 use Prim.Native.Nat.{ℕ, ◌+◌, ◌-◌, ◌*◌}
 use Rattle.plan_spectrum.proofs.listing.+put_orders.Goals as goal
+use Rattle.plan_spectrum.proofs.listing.+put_orders.Goals.{then-may_extend, else-may_extend}
 
 pub copy-requires : goal.copy-requires
 copy-requires t c = copy-fits c.args.q c.args.set c.args.row c.args.at c.args.out.now c.args.left c.if-left-eq0.true c.requires
@@ -53,15 +54,16 @@ pub overflow_add-found : goal.overflow_add-found
 overflow_add-found t c = let lp = c.loop-v in
     omega (arith, found-small c.args.q c.args.set c.args.left c.args.row c.args.at c.args.out.now c.requires c.if-left-eq0.false lp.out lp.found lp.v lp.invariant c.loop-v-test.true (sym c.may_extend.ensures ∙ c.if-may_extend.true) c.only.result c.only.ensures c.put_orders-found.new.out c.put_orders-found.result c.put_orders-found.ensures)
 
-pub loop-v-preserved-then-may_extend : goal.loop-v-preserved-then-may_extend
-loop-v-preserved-then-may_extend t c = let lp = c.loop-v in
-    turned c.args.q c.args.set c.args.left c.args.row c.args.at c.args.out.now c.requires c.if-left-eq0.false lp.out lp.found lp.v lp.invariant c.loop-v-test.true (sym c.may_extend.ensures ∙ c.if-may_extend.true) c.only.result c.only.ensures c.put_orders-found.new.out c.put_orders-found.result c.put_orders-found.ensures
-    (same_len_mid (lp.found * (c.args.at + c.args.left)) (length lp.out - lp.found * (c.args.at + c.args.left)) lp.out c.put_orders-found.new.out c.put_orders-found.auto.out)
-
 pub loop-v-preserved : goal.loop-v-preserved
 loop-v-preserved t c = let lp = c.loop-v in
-    skipped c.args.q c.args.set c.args.left c.args.row c.args.at c.args.out.now c.requires c.if-left-eq0.false lp.out lp.found lp.v lp.invariant c.loop-v-test.true (sym c.may_extend.ensures ∙ c.if-may_extend.false)
+    elim c.if-may_extend.branch [
+      | then-may_extend w ↦
+          rw (w.found-is, w.out-is)
+          (turned c.args.q c.args.set c.args.left c.args.row c.args.at c.args.out.now c.requires c.if-left-eq0.false lp.out lp.found lp.v lp.invariant c.loop-v-test.true (sym c.may_extend.ensures ∙ w.if-may_extend.true) w.only.result w.only.ensures w.put_orders-found.new.out w.put_orders-found.result w.put_orders-found.ensures
+          (same_len_mid (lp.found * (c.args.at + c.args.left)) (length lp.out - lp.found * (c.args.at + c.args.left)) lp.out w.put_orders-found.new.out w.put_orders-found.auto.out))
+      | else-may_extend w ↦ rw (w.found-is, w.out-is) (skipped c.args.q c.args.set c.args.left c.args.row c.args.at c.args.out.now c.requires c.if-left-eq0.false lp.out lp.found lp.v lp.invariant c.loop-v-test.true (sym c.may_extend.ensures ∙ w.if-may_extend.false))
+    ]
 
 pub returns : goal.returns
 returns t c = let lp = c.loop-v in
-    done c.args.q c.args.set c.args.left c.args.row c.args.at c.args.out.now c.requires c.if-left-eq0.false lp.out lp.found lp.v lp.invariant (λ h. absurd (omega (arith, h, c.loop-v-test.false)))
+    done c.args.q c.args.set c.args.left c.args.row c.args.at c.args.out.now c.requires c.if-left-eq0.false lp.out lp.found lp.v lp.invariant (λ h. absurd (omega (arith, h)))

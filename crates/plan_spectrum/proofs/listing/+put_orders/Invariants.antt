@@ -9,6 +9,3 @@ decreases-put_orders l = l.left
 
 abbrev pub invariant-loop-v : goal.invariant-loop-v
 invariant-loop-v l = Turned l.q l.set (l.left - 1) (take l.at l.row) l.initial.out l.out l.found l.v
-
-abbrev pub decreases-loop-v : goal.decreases-loop-v
-decreases-loop-v l = l.q.vertices - l.v

@@ -56,12 +56,6 @@ pub overflow_add-found : goal.overflow_add-found
 overflow_add-found c = let lp = c.loop-i in
     omega (arith, scan-small c.args.q c.requires.0 c.args.out.now c.requires.1 lp.out lp.found lp.i lp.invariant c.loop-i-test.true c.ends.result c.edge.result c.edge.ensures c.ends.ensures c.put_orders-found.new.out c.put_orders-found.result c.put_orders-found.ensures)
 
-pub overflow_add-i : goal.overflow_add-i
-overflow_add-i c = omega (arith, c.requires.0.held.edges, c.loop-i-test.true)
-
-pub loop-i-smaller : goal.loop-i-smaller
-loop-i-smaller c = omega (arith, c.loop-i-test.true)
-
 pub loop-i-preserved : goal.loop-i-preserved
 loop-i-preserved c = let lp = c.loop-i in
     scanned c.args.q c.requires.0 c.args.out.now c.requires.1 lp.out lp.found lp.i lp.invariant c.loop-i-test.true c.ends.result c.edge.result c.edge.ensures c.ends.ensures c.put_orders-found.new.out c.put_orders-found.result c.put_orders-found.ensures
@@ -69,4 +63,4 @@ loop-i-preserved c = let lp = c.loop-i in
 
 pub returns : goal.returns
 returns c = let lp = c.loop-i in
-    scan-done c.args.q c.requires.0 c.args.out.now c.requires.1 lp.out lp.found lp.i lp.invariant (λ h. absurd (omega (arith, h, c.loop-i-test.false)))
+    scan-done c.args.q c.requires.0 c.args.out.now c.requires.1 lp.out lp.found lp.i lp.invariant (λ h. absurd (omega (arith, h)))

@@ -5,6 +5,3 @@ use Rattle.plan_spectrum.proofs.listing.list_orderings.Given as goal
 
 abbrev pub invariant-loop-i : goal.invariant-loop-i
 invariant-loop-i l = Scanned l.q l.initial.out l.out l.found l.i
-
-abbrev pub decreases-loop-i : goal.decreases-loop-i
-decreases-loop-i l = l.q.edges - l.i

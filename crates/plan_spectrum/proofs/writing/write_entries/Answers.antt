@@ -64,12 +64,6 @@ pub put_entry-requires : goal.put_entry-requires
 put_entry-requires c = let lp = c.loop-k in
     enter-asks c.args.width c.args.plans c.args.list.now c.args.costs.now c.args.out.now c.requires.0 c.requires.1 c.requires.2 lp.out lp.k lp.invariant c.loop-k-test.true
 
-pub overflow_add-k : goal.overflow_add-k
-overflow_add-k c = omega (arith, c.loop-k-test.true)
-
-pub loop-k-smaller : goal.loop-k-smaller
-loop-k-smaller c = omega (arith, c.loop-k-test.true)
-
 pub loop-k-preserved : goal.loop-k-preserved
 loop-k-preserved c = let lp = c.loop-k in
     entered c.args.width c.args.plans c.args.list.now c.args.costs.now c.args.out.now c.requires.0 c.requires.1 c.requires.2 lp.out lp.k lp.invariant c.loop-k-test.true c.put_entry.new.out c.put_entry.ensures
@@ -77,4 +71,4 @@ loop-k-preserved c = let lp = c.loop-k in
 
 pub returns : goal.returns
 returns c = let lp = c.loop-k in
-    enter-done c.args.width c.args.plans c.args.list.now c.args.costs.now c.args.out.now c.requires.0 c.requires.1 c.requires.2 lp.out lp.k lp.invariant (λ h. absurd (omega (arith, h, c.loop-k-test.false)))
+    enter-done c.args.width c.args.plans c.args.list.now c.args.costs.now c.args.out.now c.requires.0 c.requires.1 c.requires.2 lp.out lp.k lp.invariant (λ h. absurd (omega (arith, h)))

@@ -5,6 +5,3 @@ use Rattle.plan_spectrum.proofs.writing.write_entries.Given as goal
 
 abbrev pub invariant-loop-k : goal.invariant-loop-k
 invariant-loop-k l = Entered l.width l.plans l.list l.costs l.initial.out l.out l.k
-
-abbrev pub decreases-loop-k : goal.decreases-loop-k
-decreases-loop-k l = l.plans - l.k
