@@ -110,10 +110,10 @@ fn longest_for(store: &[u32], g: Graph, e: Edge, v: usize) -> usize
     longest(store, g.vertices, g.forward(), e.label)
 }
 
-// 1 where the edge runs between v and the set, in either direction, else 0.
-fn joins(e: Edge, v: usize, set: u32) -> u32
+// Whether the edge runs between v and the set, in either direction.
+fn joins(e: Edge, v: usize, set: u32) -> bool
     requires { (e.source < 32) × (e.target < 32) }
-    ensures { result ≡ bit (between v (in_mask set) (as_edge e)) }
+    ensures { result ≡ between v (in_mask set) (as_edge e) }
 {
     if e.source == v {
         return set::member(set, e.target);
@@ -121,7 +121,7 @@ fn joins(e: Edge, v: usize, set: u32) -> u32
     if e.target == v {
         return set::member(set, e.source);
     }
-    0
+    false
 }
 
 // The longest portions of the query edges between v and a set.
@@ -132,14 +132,10 @@ pub fn of_edges(store: &[u32], q: Query, v: usize, set: u32) -> Portions
 {
     let g = Graph::of_store(store);
     let mut seen = Portions::none();
-    let mut i = 0;
-    while i < q.edges {
+    for i in 0..q.edges {
         let e = q.edge(i);
-        if joins(e, v, set) == 0 {
-            i += 1;
-        } else {
+        if joins(e, v, set) {
             seen = seen.with(longest_for(store, g, e, v));
-            i += 1;
         }
     }
     seen

@@ -1,6 +1,5 @@
 -- Laws of the plan file: its places, its struct, the rules turn by turn, and the answers.
 pub mod Refusals
-pub mod Bits
 pub mod Places
 pub mod Structs
 pub mod Piles

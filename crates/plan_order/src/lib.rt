@@ -5,7 +5,6 @@
 #![tactic(auto)]
 
 ghost use Rattle.std.specs.Prelude.{◌≡◌, ℕ, ◌<◌, ltb, get_or};
-ghost use Rattle.lists.specs.Lists.{bit};
 ghost use Rattle.graph.specs.Store.{graph_in, store_fault};
 ghost use Rattle.query.specs.Query.{edge_at, between};
 ghost use Rattle.query.specs.Inner.Struct.{as_edge, query_in, Held};
@@ -58,18 +57,18 @@ pub fn scan_edge(q: Query, counts: &[u32; Graph::EDGE_LABELS]) -> usize
     best
 }
 
-// 1 where the edge runs between v and the set, in either direction, else 0.
-fn joins(e: Edge, v: usize, set: u32) -> usize
+// Whether the edge runs between v and the set, in either direction.
+fn joins(e: Edge, v: usize, set: u32) -> bool
     requires { (e.source < 32) × (e.target < 32) }
-    ensures { result ≡ bit (between v (in_mask set) (as_edge e)) }
+    ensures { result ≡ between v (in_mask set) (as_edge e) }
 {
     if e.source == v {
-        return set::member(set, e.target) as usize;
+        return set::member(set, e.target);
     }
     if e.target == v {
-        return set::member(set, e.source) as usize;
+        return set::member(set, e.source);
     }
-    0
+    false
 }
 
 // How many query edges run between v and the set; 0 where v is in the set.
@@ -77,12 +76,12 @@ fn degree(q: Query, set: u32, v: usize) -> usize
     requires { Held q × (v < 32) }
     ensures { result ≡ degree (query_in q) (in_mask set) v }
 {
-    if set::member(set, v) == 1 {
+    if set::member(set, v) {
         return 0;
     }
     let mut found = 0;
     for i in 0..q.edges {
-        found += joins(q.edge(i), v, set);
+        found += joins(q.edge(i), v, set) as usize;
     }
     found
 }

@@ -15,10 +15,7 @@ fn may_extend(q: Query, set: u32, v: usize) -> bool
     requires { Held q × (v < 32) }
     ensures { result ≡ extends (query_in q) (in_mask set) v }
 {
-    if set::member(set, v) == 1 {
-        return false;
-    }
-    q.adjacent(v) & set != 0
+    !set::member(set, v) && q.adjacent(v) & set != 0
 }
 
 // Lists the orders of the vertices that a set lacks, of which so many are left, each after the first `at`

@@ -9,22 +9,13 @@ use lib.Dec.{eqb, ltb}
 use lib.Bits.{bit_and, bit_or, bit_xor, and_shr, or_shr, xor_shr, and_mod, or_mod, xor_mod}
 use lib.Pow.{pow_pos, pow_mono, pow-lt, pow-add, shl_exact, shl-shr, shr-shr, high, ones_lt, ones_split}
 use borrow.Author.Tests.{ltb-true, ltb-false, eqb-true, eqb-false, eq-eqb, ne_eqb, lt-ltb}
-use Rattle.lists.specs.Lists.{bit, range, all}
+use Rattle.lists.specs.Lists.{range, all}
 use Rattle.lists.proofs.Tests.{clash, iff, fails, and_l, and_r, not-true, not-false}
 use Rattle.lists.proofs.All.{all-at, all-range}
 use Rattle.query.specs.Query.{VertexSet}
 use Rattle.query.specs.Inner.Mask.{in_mask, MaskOf, only}
 
--- The digit of a vertex, as the code reads it, and a shifted 1, as it makes one.
-pub in-digit : (m w : ℕ) → m / 2 ^ w % 2 ≡ bit (in_mask m w)
-unfolding in_mask
-in-digit m w = go (m / 2 ^ w % 2) (mod-lt _ (zero-lt-suc 1))
-  where
-    go : (x : ℕ) → x < 2 → x ≡ bit (eqb x 1)
-    go zero h = refl
-    go (suc zero) h = refl
-    go (suc (suc x)) h = absurd (omega arith)
-
+-- A shifted 1, as the code makes one.
 pub shifted_one : (v : ℕ) → v < 32 → 1 * 2 ^ v % 2 ^ 32 ≡ 2 ^ v
 shifted_one v h = shl_exact 1 v 32 (omega arith) (omega arith) ∙ one-mul (2 ^ v)
 

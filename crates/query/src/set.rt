@@ -1,15 +1,14 @@
 // Sets of query vertices as masks: vertex w is in the set where the bit of 2^w is 1. A union is `|`, an
 // intersection `&`.
 ghost use Rattle.std.specs.Prelude.{◌≡◌, not, ◌&&◌, ℕ, ◌<◌, ltb};
-ghost use Rattle.lists.specs.Lists.{bit};
 ghost use Rattle.query.specs.Inner.Mask.{in_mask, MaskOf, only};
 
-// 1 where the vertex is in the set, else 0.
-pub fn member(set: u32, w: usize) -> u32
+// Whether the vertex is in the set.
+pub fn member(set: u32, w: usize) -> bool
     requires { w < 32 }
-    ensures { result ≡ bit (in_mask set w) }
+    ensures { result ≡ in_mask set w }
 {
-    (set >> w) % 2
+    (set >> w) % 2 == 1
 }
 
 // The set of one vertex.

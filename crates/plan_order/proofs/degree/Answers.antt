@@ -4,7 +4,7 @@ use Prim.Native.Nat.{ℕ, ◌+◌}
 use native.Mathlib.Omega.{arith}
 use borrow.Author.Rules.{rules}
 use Rattle.lists.specs.Lists.{bit}
-use Rattle.lists.proofs.Bits.{bit_le, bit-one, bit-other}
+use Rattle.lists.proofs.Bits.{bit_le}
 use Rattle.graph.specs.Graph.{Edge}
 use Rattle.query.specs.Query.{between}
 use Rattle.query.specs.Inner.Mask.{in_mask}
@@ -13,35 +13,33 @@ use Rattle.query.proofs.Structs.{edge-read}
 use Rattle.plan_order.proofs.Degrees.{edge-ends, joined, joined-none, joined-le, joined-more, degree-covered, degree-all}
 use Rattle.plan_order.proofs.degree.Goals as goal
 
-pub returns-then-member-eq1 : goal.returns-then-member-eq1
-returns-then-member-eq1 c = let a = c.args in
-    degree-covered a.q a.v (in_mask a.set) (bit-one (in_mask a.set a.v) (sym c.member.ensures ∙ c.if-member-eq1.true))
+pub returns-then-member : goal.returns-then-member
+returns-then-member c = let a = c.args in
+    degree-covered a.q a.v (in_mask a.set) (sym c.member.ensures ∙ c.if-member.true)
 
 pub loop-i-init : goal.loop-i-init
-loop-i-init c = (search rules, sym (joined-none c.args.q c.args.v (in_mask c.args.set)))
+loop-i-init c = sym (joined-none c.args.q c.args.v (in_mask c.args.set))
 
-pub joins-found-requires : goal.joins-found-requires
-joins-found-requires c = edge-ends c.args.q c.loop-i.i (search rules) c.edge.result c.edge.ensures
+pub joins-requires : goal.joins-requires
+joins-requires c = edge-ends c.args.q c.loop-i.i (search rules) c.edge.result c.edge.ensures
     c.requires.0
 
 pub overflow_add-found : goal.overflow_add-found
 overflow_add-found c = omega (
   arith,
   joined-le c.args.q c.args.v (in_mask c.args.set) c.loop-i.i,
-  bit_le (between c.args.v (in_mask c.args.set) (as_edge c.edge.result)),
+  bit_le c.joins.result,
   c.requires.0.edges,
 )
 
 pub loop-i-preserved : goal.loop-i-preserved
-loop-i-preserved c = let i = c.loop-i.i in (
-  search rules,
-  ap₂ (λ (m n : ℕ). m + n) c.loop-i.invariant.1
-      (c.joins-found.ensures ∙ ap (λ (e : Edge). bit (between c.args.v (in_mask c.args.set) e)) (edge-read c.args.q i c.edge.result (search rules) c.edge.ensures))
-      ∙ sym (joined-more c.args.q c.args.v (in_mask c.args.set) i),
-)
+loop-i-preserved c = let i = c.loop-i.i in
+  ap₂ (λ (m n : ℕ). m + n) c.loop-i.invariant
+      (ap bit (c.joins.ensures ∙ ap (between c.args.v (in_mask c.args.set)) (edge-read c.args.q i c.edge.result (search rules) c.edge.ensures)))
+      ∙ sym (joined-more c.args.q c.args.v (in_mask c.args.set) i)
 
 pub returns : goal.returns
 returns c = let all : c.loop-i.i ≡ c.args.q.edges = omega arith in
-    c.loop-i.invariant.1 ∙ ap (joined c.args.q c.args.v (in_mask c.args.set)) all
+    c.loop-i.invariant ∙ ap (joined c.args.q c.args.v (in_mask c.args.set)) all
     ∙ degree-all c.args.q c.args.v (in_mask c.args.set)
-    (bit-other (in_mask c.args.set c.args.v) (λ e. c.if-member-eq1.false (c.member.ensures ∙ e)))
+    (sym c.member.ensures ∙ c.if-member.false)

@@ -3,7 +3,6 @@ use mathlib.Core.Path.{◌≡◌, sym, ◌∙◌, ap}
 use mathlib.Core.Bool.{true, false}
 use native.Mathlib.Omega.{arith}
 use borrow.Author.Rules.{rules}
-use Rattle.lists.proofs.Bits.{bit-none, bit-some}
 use Rattle.graph.specs.Store.{graph_in}
 use Rattle.adjacency.proofs.Accepted.{store-counts}
 use Rattle.query.specs.Query.{between}
@@ -14,6 +13,7 @@ use Rattle.plan_order.proofs.Degrees.{edge-ends, label-byte}
 use Rattle.plan_bounds.specs.Bounds.{longest_for}
 use Rattle.plan_bounds.proofs.Seeing.{lengths_none, lengths-skip, lengths-more, seen_all}
 use Rattle.plan_bounds.proofs.longest.of_edges.Goals as goal
+use Rattle.plan_bounds.proofs.longest.of_edges.Goals.{then-joins, else-joins}
 
 pub of_store-g-requires : goal.of_store-g-requires
 of_store-g-requires c = (store-counts c.args.store.now c.requires.1).0
@@ -23,7 +23,6 @@ none-seen-requires c = tt
 
 pub loop-i-init : goal.loop-i-init
 loop-i-init c = let a = c.args in (
-  omega arith,
   rw (lengths_none (graph_in a.store.now) a.q a.v (in_mask a.set)) c.none-seen.ensures.0,
   omega (arith, c.none-seen.ensures.1),
   omega (arith, c.none-seen.ensures.2),
@@ -35,19 +34,6 @@ edge-e-requires c = (c.loop-i-test.true, c.requires.0.held.edges)
 pub joins-requires : goal.joins-requires
 joins-requires c = edge-ends c.args.q c.loop-i.i c.loop-i-test.true c.edge-e.result c.edge-e.ensures c.requires.0.held
 
-pub loop-i-preserved-then-joins-eq0 : goal.loop-i-preserved-then-joins-eq0
-loop-i-preserved-then-joins-eq0 c = let runs : let a = c.args in
-    between a.v (in_mask a.set) (as_edge c.edge-e.result) ≡ between a.v (in_mask a.set) (edge_of a.q c.loop-i.i) = let a = c.args in
-    ap (between a.v (in_mask a.set)) (edge-read a.q c.loop-i.i c.edge-e.result c.loop-i-test.true c.edge-e.ensures) in
-    let out : c.joins.result ≡ 0 → let a = c.args in
-    between a.v (in_mask a.set) (edge_of a.q c.loop-i.i) ≡ false = λ e. sym (runs) ∙ bit-none _ c.joins.ensures e in
-    let a = c.args in (
-      search rules,
-      rw (lengths-skip (graph_in a.store.now) a.q a.v (in_mask a.set) c.loop-i.i (out c.if-joins-eq0.true)) c.loop-i.invariant.1,
-      omega arith,
-      omega arith,
-    )
-
 pub longest_for-requires : goal.longest_for-requires
 longest_for-requires c = (
   record { accepted = c.requires.1; vertices = c.of_store-g.ensures.0; edges = c.of_store-g.ensures.1 },
@@ -56,27 +42,33 @@ longest_for-requires c = (
 
 pub with-seen-requires : goal.with-seen-requires
 with-seen-requires c = let few = c.requires.0.held.edges in
-    (omega (arith, few, c.loop-i.invariant.2, c.loop-i-test.true), omega (arith, few, c.loop-i.invariant.3, c.loop-i-test.true), c.longest_for.ensures.1)
+    (omega (arith, few, c.loop-i.invariant.1, c.loop-i-test.true), omega (arith, few, c.loop-i.invariant.2, c.loop-i-test.true), c.longest_for.ensures.1)
 
 pub loop-i-preserved : goal.loop-i-preserved
-loop-i-preserved c = let runs : let a = c.args in
-    between a.v (in_mask a.set) (as_edge c.edge-e.result) ≡ between a.v (in_mask a.set) (edge_of a.q c.loop-i.i) = let a = c.args in
-    ap (between a.v (in_mask a.set)) (edge-read a.q c.loop-i.i c.edge-e.result c.loop-i-test.true c.edge-e.ensures) in
-    let into : (c.joins.result ≡ 0 → ⊥) → let a = c.args in
-    between a.v (in_mask a.set) (edge_of a.q c.loop-i.i) ≡ true = λ e. sym (runs) ∙ bit-some _ c.joins.ensures e in
+loop-i-preserved c =
     let a = c.args in
-    let same = edge-read a.q c.loop-i.i c.edge-e.result c.loop-i-test.true c.edge-e.ensures in (
-      omega (arith, c.loop-i-test.true),
-      rw (
-        lengths-more (graph_in a.store.now) a.q a.v (in_mask a.set) c.loop-i.i (into c.if-joins-eq0.false),
-        ← (c.longest_for.ensures.0 ∙ ap (longest_for (graph_in a.store.now) a.v) same),
-      )
-          (c.with-seen.ensures.0 _ c.loop-i.invariant.1),
-      omega (arith, c.with-seen.ensures.1, c.loop-i.invariant.2),
-      omega (arith, c.with-seen.ensures.2, c.loop-i.invariant.3, c.longest_for.ensures.1),
-    )
+    let g = graph_in a.store.now in
+    let i = c.loop-i.i in
+    let same = edge-read a.q i c.edge-e.result c.loop-i-test.true c.edge-e.ensures in
+    let runs : c.joins.result ≡ between a.v (in_mask a.set) (edge_of a.q i) = c.joins.ensures ∙ ap (between a.v (in_mask a.set)) same in
+    elim c.if-joins.branch [
+      | then-joins w ↦ rw (w.seen-is) (
+          rw (
+            lengths-more g a.q a.v (in_mask a.set) i (sym runs ∙ w.if-joins.true),
+            ← (w.longest_for.ensures.0 ∙ ap (longest_for g a.v) same),
+          )
+              (w.with-seen.ensures.0 _ c.loop-i.invariant.0),
+          omega (arith, w.with-seen.ensures.1, c.loop-i.invariant.1),
+          omega (arith, w.with-seen.ensures.2, c.loop-i.invariant.2, w.longest_for.ensures.1),
+        )
+      | else-joins w ↦ rw (w.seen-is) (
+          rw (lengths-skip g a.q a.v (in_mask a.set) i (sym runs ∙ w.if-joins.false)) c.loop-i.invariant.0,
+          omega arith,
+          omega arith,
+        )
+    ]
 
 pub returns : goal.returns
 returns c = let a = c.args in
     let all : c.loop-i.i ≡ a.q.edges = omega arith in
-    seen_all (graph_in a.store.now) a.q a.v (in_mask a.set) c.loop-i.seen (rw all at c.loop-i.invariant.1)
+    seen_all (graph_in a.store.now) a.q a.v (in_mask a.set) c.loop-i.seen (rw all at c.loop-i.invariant.0)

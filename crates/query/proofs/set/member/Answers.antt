@@ -1,6 +1,8 @@
 -- `query::set::member` meets its contract. Assumes nothing.
-use Rattle.query.proofs.Masks.{in-digit}
+use mathlib.Core.Path.{refl}
+use Rattle.query.specs.Inner.Mask.{in_mask}
 use Rattle.query.proofs.set.member.Goals as goal
 
 pub returns : goal.returns
-returns c = in-digit c.args.set c.args.w
+unfolding in_mask
+returns c = refl
