@@ -6,7 +6,7 @@
 ghost use Rattle.std.specs.Prelude.{◌≡◌, suc, ◌+◌, ◌*◌, ◌≤◌, ◌<◌, length};
 ghost use Rattle.graph.specs.Graph.{max_graph_vertices, max_graph_edges, max_edge_label, entry_end, forward, entry};
 ghost use Rattle.graph.specs.Graph.{key};
-ghost use Rattle.graph.specs.File.{vertex_count, edge_count, edge_in, graph_fault};
+ghost use Rattle.graph.specs.File.{vertex_count, edge_count, file_size, edge_in, graph_fault};
 ghost use Rattle.graph.specs.Store.{load_fault};
 ghost use Rattle.graph_file.specs.Inner.Reading.{Whole, vertex_field, edge_with, graph_length_fault};
 ghost use Rattle.graph_file.specs.Inner.Reading.{graph_edges_fault};
@@ -16,34 +16,21 @@ use graph::Graph;
 use packed::field;
 use refusals::Refusal;
 
-pub fn vertex_count(file: &[u8]) -> usize
+fn vertex_count(file: &[u8]) -> usize
     requires { 5 ≤ length file.now }
     ensures { (result ≡ vertex_count file.now) × (result < suc max_graph_vertices) }
 {
     field(file, 0, 16) as usize
 }
 
-pub fn edge_count(file: &[u8]) -> usize
+fn edge_count(file: &[u8]) -> usize
     requires { 5 ≤ length file.now }
     ensures { (result ≡ edge_count file.now) × (result < suc max_graph_edges) }
 {
     field(file, 16, 20) as usize
 }
 
-// Where a vertex has its label and its day, in bytes past its start.
-pub const LABEL: usize = 0;
-
-pub const DAY: usize = 2;
-
-// The label or the day of vertex v. Both begin at bit 4 of a byte: so written, that byte takes no division.
-pub fn vertex_field(file: &[u8], n: usize, offset: usize, v: usize) -> u32
-    requires { Whole file.now n × (offset ≤ 2) × (v < n) }
-    ensures { result ≡ vertex_field file.now offset v }
-{
-    field(file, 8 * (4 + 4 * v + offset) + 4, 16)
-}
-
-// The bit position of edge i in a file of n vertices, as bit 4 of a byte too.
+// The bit position of edge i in a file of n vertices, as bit 4 of a byte.
 fn edge_start(n: usize, i: usize) -> usize
     requires { (n < suc max_graph_vertices) × (i < suc max_graph_edges) }
     ensures { result ≡ 36 + 32 * n + 40 * i }
@@ -51,26 +38,68 @@ fn edge_start(n: usize, i: usize) -> usize
     8 * (4 + 4 * n + 5 * i) + 4
 }
 
-pub fn source(file: &[u8], n: usize, i: usize) -> u32
-    requires { Whole file.now n × (i < edge_count file.now) }
-    ensures { (result ≡ (edge_in file.now i).source) × (result < suc max_graph_vertices) }
-{
-    field(file, edge_start(n, i), 16)
+// A file that is not shorter than its own size, with the counts that stand in it.
+#[derive(Clone, Copy)]
+pub struct GraphFile<'a> {
+    pub bytes: &'a [u8],
+    // N and M.
+    pub graph: Graph,
+    pub ghost whole: { Whole bytes.now graph.vertices },
+    pub ghost counted: { graph.edges ≡ edge_count bytes.now },
 }
 
-// The entry of edge i on the forward side: its label and its target, which are 24 bits together.
-pub fn forward_entry(file: &[u8], n: usize, i: usize) -> u32
-    requires { Whole file.now n × (i < edge_count file.now) }
-    ensures { (result ≡ entry forward (edge_in file.now i)) × (result < entry_end) }
-{
-    field(file, edge_start(n, i) + 16, 24)
-}
+impl<'a> GraphFile<'a> {
+    // Where a vertex has its label and its day, in bytes past its start.
+    pub const LABEL: usize = 0;
 
-pub fn label(file: &[u8], n: usize, i: usize) -> u32
-    requires { Whole file.now n × (i < edge_count file.now) }
-    ensures { (result ≡ (edge_in file.now i).label) × (result < suc max_edge_label) }
-{
-    forward_entry(file, n, i) / Graph::SPAN
+    pub const DAY: usize = 2;
+
+    // What a file of that size holds.
+    pub fn of(file: &'a [u8]) -> Self
+        requires { (5 ≤ length file.now) × (file_size file.now ≤ length file.now) }
+        ensures { (result.bytes.now ≡ file.now)
+            × (result.graph.vertices ≡ vertex_count file.now)
+            × (result.graph.edges ≡ edge_count file.now) }
+    {
+        GraphFile {
+            bytes: file,
+            graph: Graph {
+                vertices: vertex_count(file),
+                edges: edge_count(file),
+            },
+        }
+    }
+
+    // The label or the day of vertex v. Both begin at bit 4 of a byte: so written, that byte takes no
+    // division.
+    pub fn vertex_field(self, offset: usize, v: usize) -> u32
+        requires { (offset ≤ 2) × (v < self.graph.vertices) }
+        ensures { result ≡ vertex_field self.entry.bytes.now offset v }
+    {
+        field(self.bytes, 8 * (4 + 4 * v + offset) + 4, 16)
+    }
+
+    pub fn source(self, i: usize) -> u32
+        requires { i < self.graph.edges }
+        ensures { (result ≡ (edge_in self.entry.bytes.now i).source) × (result < suc max_graph_vertices) }
+    {
+        field(self.bytes, edge_start(self.graph.vertices, i), 16)
+    }
+
+    // The entry of edge i on the forward side: its label and its target, which are 24 bits together.
+    pub fn forward_entry(self, i: usize) -> u32
+        requires { i < self.graph.edges }
+        ensures { (result ≡ entry forward (edge_in self.entry.bytes.now i)) × (result < entry_end) }
+    {
+        field(self.bytes, edge_start(self.graph.vertices, i) + 16, 24)
+    }
+
+    pub fn label(self, i: usize) -> u32
+        requires { i < self.graph.edges }
+        ensures { (result ≡ (edge_in self.entry.bytes.now i).label) × (result < suc max_edge_label) }
+    {
+        self.forward_entry(i) / Graph::SPAN
+    }
 }
 
 // Refuses a file that is shorter than 5 bytes or than its own size, and one that is longer or has a fill bit
@@ -103,14 +132,14 @@ fn edge_key(s: u32, e: u32) -> u64
 
 // Refuses the first edge at fault. `least` is one more than the key of the edge before. The tests stand in the
 // loop, so that each is a branch that is never taken.
-fn check_edges(file: &[u8], n: usize, m: usize) -> Result<(), Refusal>
-    requires { Whole file.now n × (m ≡ edge_count file.now) }
-    ensures { fault_of result ≡ graph_edges_fault file.now }
+fn check_edges(file: GraphFile) -> Result<(), Refusal>
+    ensures { fault_of result ≡ graph_edges_fault file.entry.bytes.now }
 {
     let mut least = 0;
-    for i in 0..m {
-        let s = source(file, n, i);
-        let e = forward_entry(file, n, i);
+    let n = file.graph.vertices;
+    for i in 0..file.graph.edges {
+        let s = file.source(i);
+        let e = file.forward_entry(i);
         if n <= s as usize || n <= (e % Graph::SPAN) as usize || e / Graph::SPAN == 0 {
             return Err(Refusal::GraphEdge);
         }
@@ -128,7 +157,7 @@ fn check_graph(file: &[u8]) -> Result<(), Refusal>
     ensures { fault_of result ≡ graph_fault file.now }
 {
     check_length(file)?;
-    check_edges(file, vertex_count(file), edge_count(file))
+    check_edges(GraphFile::of(file))
 }
 
 // Load's refusal of a file or of a store of so many words.
@@ -136,11 +165,7 @@ pub fn check_load(file: &[u8], room: usize) -> Result<(), Refusal>
     ensures { fault_of result ≡ load_fault file.now room }
 {
     check_graph(file)?;
-    let g = Graph {
-        vertices: vertex_count(file),
-        edges: edge_count(file),
-    };
-    if room < g.words() {
+    if room < GraphFile::of(file).graph.words() {
         return Err(Refusal::StoreSmall);
     }
     Ok(())

@@ -2,17 +2,14 @@
 use mathlib.Core.Path.{◌≡◌, sym, ◌∙◌}
 use mathlib.Core.List.{List, ◌++◌}
 use Prim.Native.Nat.{ℕ, ◌≤◌}
-use native.Mathlib.Omega.{arith}
 use lib.ListN.{length, drop}
 use borrow.Author.Tests.{ltb-false, ne_eqb}
 use Rattle.lists.proofs.Faults.{first_head, first_tail, refuse-zero}
 use Rattle.graph.specs.File.{graph_of, graph_fault, vertex_count, edge_count}
 use Rattle.graph.specs.Store.{store_of, used_words, store_size, load_fault, load_store}
-use Rattle.graph.proofs.FileGraph.{accepted}
 use Rattle.graph.proofs.Loads.{load_store_lem}
-use Rattle.graph_file.specs.Inner.Reading.{Whole}
 use Rattle.load.specs.Answer.{load_answer}
-use Rattle.graph_file.proofs.Refused.{length-edges, store_words, file-whole}
+use Rattle.graph_file.proofs.Refused.{length-edges, store_words}
 
 -- ---- refused
 
@@ -32,10 +29,7 @@ module _ (s store : List ℕ) (e : load_fault s (length store) ≡ 0) where
   unfolding load_fault
   file-accepted = first_head _ _ e
 
-  -- The file is whole, and its words fit the store.
-  pub whole-accepted : {n : ℕ} → n ≡ vertex_count s → Whole s n
-  whole-accepted vn = file-whole s vn (let l = (accepted s file-accepted).sized in omega arith)
-
+  -- Its words fit the store.
   pub room-accepted : {n m : ℕ} → n ≡ vertex_count s → m ≡ edge_count s → used_words n m ≤ length store
   unfolding load_fault
   room-accepted vn vm =

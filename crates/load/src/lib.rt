@@ -7,6 +7,8 @@ ghost use Rattle.std.specs.Prelude.{◌≡◌, length};
 ghost use Rattle.graph.specs.Store.{load_store};
 ghost use Rattle.load.specs.Answer.{load_answer};
 
+use graph_file::GraphFile;
+
 mod fill;
 
 // What Load answers: a refusal with zeros, or 0 with the counts.
@@ -33,13 +35,12 @@ pub fn load(file: &[u8], store: &mut [u32]) -> Loaded
             edges: 0,
         },
         Ok(()) => {
-            let n = graph_file::vertex_count(file);
-            let m = graph_file::edge_count(file);
-            fill::fill(file, n, m, store);
+            let whole = GraphFile::of(file);
+            fill::fill(whole, store);
             Loaded {
                 refusal: 0,
-                vertices: n,
-                edges: m,
+                vertices: whole.graph.vertices,
+                edges: whole.graph.edges,
             }
         }
     }

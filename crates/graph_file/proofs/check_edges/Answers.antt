@@ -14,13 +14,13 @@ loop-i-init c = (search rules, faultless-start _)
 
 pub returns-then-n-s : goal.returns-then-n-s
 returns-then-n-s c = let read : let a = c.args in
-    Read a.file.now a.n c.loop-i.least c.loop-i.i c.source-s.result c.forward_entry-e.result = record {
-      vertices = c.requires.0.vertices;
+    Read a.file.bytes.now a.file.graph.vertices c.loop-i.least c.loop-i.i c.source-s.result c.forward_entry-e.result = record {
+      vertices = c.args.file.whole.vertices;
       earlier = c.loop-i.invariant.1;
       source = c.source-s.ensures.0;
       its_entry = c.forward_entry-e.ensures.0;
     } in
-    let at_fault : 3 ≡ fault_from c.args.n c.loop-i.least (edge_with c.source-s.result c.forward_entry-e.result) =
+    let at_fault : 3 ≡ fault_from c.args.file.graph.vertices c.loop-i.least (edge_with c.source-s.result c.forward_entry-e.result) =
     elim c.then-n-s.branch [
       | then-n-s-via-then-n-s w ↦ fault-source _ _ _ _ w.if-n-s.true
       | then-n-s-via-else-n-s+then-n-e w ↦ fault-target _ _ _ _ w.if-n-s.false w.if-n-e.true
@@ -30,8 +30,8 @@ returns-then-n-s c = let read : let a = c.args in
 
 pub returns-then-key-least : goal.returns-then-key-least
 returns-then-key-least c = let read : let a = c.args in
-    Read a.file.now a.n c.loop-i.least c.loop-i.i c.source-s.result c.forward_entry-e.result = record {
-      vertices = c.requires.0.vertices;
+    Read a.file.bytes.now a.file.graph.vertices c.loop-i.least c.loop-i.i c.source-s.result c.forward_entry-e.result = record {
+      vertices = c.args.file.whole.vertices;
       earlier = c.loop-i.invariant.1;
       source = c.source-s.ensures.0;
       its_entry = c.forward_entry-e.ensures.0;
@@ -40,8 +40,8 @@ returns-then-key-least c = let read : let a = c.args in
 
 pub loop-i-preserved : goal.loop-i-preserved
 loop-i-preserved c = let read : let a = c.args in
-    Read a.file.now a.n c.loop-i.least c.loop-i.i c.source-s.result c.forward_entry-e.result = record {
-      vertices = c.requires.0.vertices;
+    Read a.file.bytes.now a.file.graph.vertices c.loop-i.least c.loop-i.i c.source-s.result c.forward_entry-e.result = record {
+      vertices = c.args.file.whole.vertices;
       earlier = c.loop-i.invariant.1;
       source = c.source-s.ensures.0;
       its_entry = c.forward_entry-e.ensures.0;
@@ -52,5 +52,5 @@ loop-i-preserved c = let read : let a = c.args in
 
 pub returns : goal.returns
 unfolding graph_edges_fault
-returns c = let all : c.loop-i.i ≡ edge_count c.args.file.now = omega arith in
+returns c = let all : c.loop-i.i ≡ edge_count c.args.file.bytes.now = omega arith in
     rw (← all) (sym c.loop-i.invariant.1.none)

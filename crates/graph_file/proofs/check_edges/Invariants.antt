@@ -5,4 +5,4 @@ use Rattle.graph_file.proofs.Refused.{Faultless}
 use Rattle.graph_file.proofs.check_edges.Given as goal
 
 abbrev pub invariant-loop-i : goal.invariant-loop-i
-invariant-loop-i l = (l.i ≤ l.m) × Faultless l.file l.least l.i
+invariant-loop-i l = (l.i ≤ l.file.graph.edges) × Faultless l.file.bytes.now l.least l.i

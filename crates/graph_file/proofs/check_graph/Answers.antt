@@ -3,7 +3,7 @@ use mathlib.Core.Path.{sym, ◌∙◌}
 use native.Mathlib.Omega.{arith}
 use Rattle.std.proofs.lemmas.Result.{err_from_is_err_and}
 use Rattle.refusals.proofs.Laws.{numbered}
-use Rattle.graph_file.proofs.Refused.{graph-length, graph-edges, length-there, file-whole}
+use Rattle.graph_file.proofs.Refused.{graph-length, graph-edges, length-there}
 use Rattle.graph_file.proofs.check_graph.Goals as goal
 
 pub returns-in_err-check_length : goal.returns-in_err-check_length
@@ -12,17 +12,8 @@ returns-in_err-check_length c =
     let h = c.in_err-check_length.ensures in
     rw (p.1, p.2) (h ∙ sym (graph-length _ (λ z. numbered _ (h ∙ z))))
 
-pub vertex_count-requires : goal.vertex_count-requires
-vertex_count-requires c = omega (arith, length-there _ (sym c.in_ok-check_length.ensures))
-
-pub edge_count-requires : goal.edge_count-requires
-edge_count-requires c = omega (arith, length-there _ (sym c.in_ok-check_length.ensures))
-
-pub check_edges-requires : goal.check_edges-requires
-check_edges-requires c = (
-  file-whole _ c.vertex_count.ensures.0 (length-there _ (sym c.in_ok-check_length.ensures)),
-  c.edge_count.ensures.0,
-)
+pub of-requires : goal.of-requires
+of-requires c = omega (arith, length-there _ (sym c.in_ok-check_length.ensures))
 
 pub returns : goal.returns
-returns c = c.check_edges.ensures ∙ sym (graph-edges _ (sym c.in_ok-check_length.ensures))
+returns c = rw c.of.ensures.0 at c.check_edges.ensures ∙ sym (graph-edges _ (sym c.in_ok-check_length.ensures))

@@ -13,11 +13,8 @@ returns-in_err-check_graph c =
     let h = c.in_err-check_graph.ensures in
     rw (p.1, p.2) (h ∙ sym (load-file _ _ (λ z. numbered _ (h ∙ z))))
 
-pub vertex_count-requires : goal.vertex_count-requires
-vertex_count-requires c = omega (arith, (accepted _ (sym c.in_ok-check_graph.ensures)).sized)
-
-pub edge_count-requires : goal.edge_count-requires
-edge_count-requires c = omega (arith, (accepted _ (sym c.in_ok-check_graph.ensures)).sized)
+pub of-requires : goal.of-requires
+of-requires c = omega (arith, (accepted _ (sym c.in_ok-check_graph.ensures)).sized)
 
 pub returns-then-room-words : goal.returns-then-room-words
 returns-then-room-words c = sym (load-small _ _ (sym c.in_ok-check_graph.ensures) (omega arith))
