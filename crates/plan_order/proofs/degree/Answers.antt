@@ -5,10 +5,8 @@ use native.Mathlib.Omega.{arith}
 use borrow.Author.Rules.{rules}
 use Rattle.lists.specs.Lists.{bit}
 use Rattle.lists.proofs.Bits.{bit_le}
-use Rattle.graph.specs.Graph.{Edge}
 use Rattle.query.specs.Query.{between}
 use Rattle.query.specs.Inner.Mask.{in_mask}
-use Rattle.query.specs.Inner.Struct.{as_edge}
 use Rattle.query.proofs.Structs.{edge-read}
 use Rattle.plan_order.proofs.Degrees.{edge-ends, joined, joined-none, joined-le, joined-more, degree-covered, degree-all}
 use Rattle.plan_order.proofs.degree.Goals as goal
@@ -34,9 +32,9 @@ overflow_add-found c = omega (
 
 pub loop-i-preserved : goal.loop-i-preserved
 loop-i-preserved c = let i = c.loop-i.i in
-  ap₂ (λ (m n : ℕ). m + n) c.loop-i.invariant
-      (ap bit (c.joins.ensures ∙ ap (between c.args.v (in_mask c.args.set)) (edge-read c.args.q i c.edge.result (search rules) c.edge.ensures)))
-      ∙ sym (joined-more c.args.q c.args.v (in_mask c.args.set) i)
+    ap₂ (λ (m n : ℕ). m + n) c.loop-i.invariant
+    (ap bit (c.joins.ensures ∙ ap (between c.args.v (in_mask c.args.set)) (edge-read c.args.q i c.edge.result (search rules) c.edge.ensures)))
+    ∙ sym (joined-more c.args.q c.args.v (in_mask c.args.set) i)
 
 pub returns : goal.returns
 returns c = let all : c.loop-i.i ≡ c.args.q.edges = omega arith in
