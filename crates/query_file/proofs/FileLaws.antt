@@ -2,7 +2,7 @@
 use mathlib.Core.Path.{◌≡◌, refl, sym, ◌∙◌, ap, ap₂}
 use mathlib.Core.Bool.{Bool, true, false, not, ◌||◌}
 use mathlib.Core.List.{List, [], ◌∷◌, ◌++◌, map}
-use Prim.Native.Nat.{ℕ, zero, suc, ◌+◌, ◌*◌, ◌^◌, ◌≤◌, ◌<◌}
+use Prim.Native.Nat.{ℕ, zero, suc, ◌+◌, ◌^◌, ◌≤◌, ◌<◌}
 use native.Mathlib.Numerals.{add-one}
 use native.Mathlib.Omega.{arith}
 use lib.Dec.{ltb}
@@ -15,7 +15,7 @@ use Rattle.lists.proofs.Faults.{first_head, first_tail, first-cons, refuse-zero,
 use Rattle.packed.specs.Field.{field_at, bits_in, bytes_for}
 use Rattle.packed.proofs.Laws.{field-add, field_lt}
 use Rattle.query.specs.Query.{connected}
-use Rattle.query.specs.File.{vertex_count, edge_count, pair_count, first_in, last_in, edge_in, pair_start, pair_in, query_of, outside_limits, counted_size, day_fault, key, edge_fault, bad_pair, pair_key, pair_fault, query_fault}
+use Rattle.query.specs.File.{vertex_count, edge_count, pair_count, first_in, last_in, edge_start, edge_in, pair_start, pair_in, query_of, outside_limits, counted_size, day_fault, key, edge_fault, bad_pair, pair_key, pair_fault, query_fault}
 use Rattle.query_file.specs.Inner.Parts.{size_fault, sizes_fault, edge_from, pair_from, key_fault, pair_key_fault, query_days_fault, query_edges_fault, query_pairs_fault, query_file_fault, Readable}
 use Rattle.query.specs.Answer.{struct_of}
 use Rattle.query.specs.Inner.Struct.{Held}
@@ -48,9 +48,9 @@ edge-by-key s zero = rw (le-ltb (key (edge_in s 0)) 0 (omega arith)) refl
 edge-by-key s (suc i) = rw (later (key (edge_in s i)) (key (edge_in s (suc i)))) refl
 
 -- What the code reads of edge i, at its place in the file.
-module _ (s : List ℕ) (n at i : ℕ) (count : n ≡ vertex_count s) (place : at ≡ 9 + 48 * n + 14 * i) where
+module _ (s : List ℕ) (n at i : ℕ) (count : n ≡ vertex_count s) (place : at ≡ edge_start s i) where
   edge_here : edge_from s at ≡ edge_in s i
-  edge_here = ap (edge_from s) (place ∙ ap (λ (k : ℕ). 9 + 48 * k + 14 * i) count)
+  edge_here = ap (edge_from s) place
 
   pub fault-here : (least fault : ℕ) → least ≡ least_key s i → fault ≡ key_fault n least (edge_from s at) → fault ≡ edge_fault s i
   fault-here least fault l f =
@@ -78,9 +78,9 @@ pair-by-key s zero = ap (λ (b : Bool). refuse 26 (bad_pair (vertex_count s) (pa
 pair-by-key s (suc i) =
     ap (λ (b : Bool). refuse 26 (bad_pair (vertex_count s) (pair_in s (suc i)) || b)) (later (pair_key (pair_in s i)) (pair_key (pair_in s (suc i))))
 
-module _ (s : List ℕ) (n m at i : ℕ) (vertices : n ≡ vertex_count s) (edges : m ≡ edge_count s) (place : at ≡ 13 + 48 * n + 14 * m + 6 * i) where
+module _ (s : List ℕ) (n at i : ℕ) (vertices : n ≡ vertex_count s) (place : at ≡ pair_start s i) where
   pair-here : pair_from s at ≡ pair_in s i
-  pair-here = ap (pair_from s) (omega arith)
+  pair-here = ap (pair_from s) place
 
   pub pair-fault-here : (least fault : ℕ) → least ≡ least_pair s i → fault ≡ pair_key_fault n least (pair_from s at) → fault ≡ pair_fault s i
   pair-fault-here least fault l f =

@@ -3,13 +3,12 @@
 ghost use Rattle.std.specs.Prelude.{◌≡◌, ◌+◌, ◌*◌, ◌^◌, ◌≤◌, ◌<◌};
 ghost use Rattle.refusals.specs.Refusals.{fault_of};
 ghost use Rattle.packed.specs.Field.{bits_in};
-ghost use Rattle.query.specs.File.{max_vertices, max_edges, vertex_count, edge_count, pair_count, vertex_start};
-ghost use Rattle.query.specs.File.{edge_start, pair_start, key, pair_key};
+ghost use Rattle.query.specs.File.{pair_count, vertex_start, edge_start, pair_start, key, pair_key};
 ghost use Rattle.query_file.specs.Inner.Parts.{limits_fault, size_fault, sizes_fault, edge_from, pair_from};
 ghost use Rattle.query_file.specs.Inner.Parts.{key_fault, pair_key_fault, query_days_fault, query_edges_fault};
 ghost use Rattle.query_file.specs.Inner.Parts.{query_pairs_fault, query_file_fault};
 
-use crate::{edge_count, edge_start, pair_count, pair_start, vertex_count};
+use crate::{QueryFile, edge_count, vertex_count};
 use packed::{bytes_for, field, fill_set};
 use query::Query;
 use refusals::Refusal;
@@ -45,26 +44,23 @@ fn check_size(file: &[u8], bits: usize) -> Result<(), Refusal>
 }
 
 // Refuses a file that ends before its pair count does; then one that is not of its size.
-fn check_sizes(file: &[u8], n: usize, m: usize) -> Result<(), Refusal>
-    requires { (n ≡ vertex_count file.now) × (m ≡ edge_count file.now) × (n ≤ max_vertices)
-        × (m ≤ max_edges) }
-    ensures { fault_of result ≡ sizes_fault file.now }
+fn check_sizes(file: QueryFile) -> Result<(), Refusal>
+    ensures { fault_of result ≡ sizes_fault file.entry.bytes.now }
 {
-    if file.len() < bytes_for(pair_start(n, m, 0)) {
+    if file.bytes.len() < bytes_for(file.pair_start(0)) {
         return Err(Refusal::QueryShort);
     }
-    let k = pair_count(file, n, m);
-    check_size(file, pair_start(n, m, k))
+    check_size(file.bytes, file.pair_start(file.pair_count()))
 }
 
-// Refuses the first of the n vertices whose first day is above its last.
-fn check_days(file: &[u8], n: usize) -> Result<(), Refusal>
-    requires { (n ≤ max_vertices) × (vertex_start n ≤ bits_in file.now) }
-    ensures { fault_of result ≡ query_days_fault file.now n }
+// Refuses the first vertex whose first day is above its last.
+fn check_days(file: QueryFile) -> Result<(), Refusal>
+    requires { vertex_start file.vertices ≤ bits_in file.bytes.now }
+    ensures { fault_of result ≡ query_days_fault file.entry.bytes.now file.entry.vertices }
 {
-    for w in 0..n {
-        let first = field(file, 9 + 48 * w + 16, 16);
-        let last = field(file, 9 + 48 * w + 32, 16);
+    for w in 0..file.vertices {
+        let first = field(file.bytes, 9 + 48 * w + 16, 16);
+        let last = field(file.bytes, 9 + 48 * w + 32, 16);
         if last < first {
             return Err(Refusal::QueryDays);
         }
@@ -99,16 +95,15 @@ fn check_edge(file: &[u8], at: usize, n: usize, least: u32) -> Result<(), Refusa
 }
 
 // Refuses the first edge at fault. `least` is one more than the last edge's key.
-fn check_edges(file: &[u8], n: usize, m: usize) -> Result<(), Refusal>
-    requires { (n ≡ vertex_count file.now) × (n ≤ max_vertices) × (m ≤ max_edges)
-        × (edge_start file.now m ≤ bits_in file.now) }
-    ensures { fault_of result ≡ query_edges_fault file.now m }
+fn check_edges(file: QueryFile) -> Result<(), Refusal>
+    requires { edge_start file.bytes.now file.edges ≤ bits_in file.bytes.now }
+    ensures { fault_of result ≡ query_edges_fault file.entry.bytes.now file.entry.edges }
 {
     let mut least = 0;
-    for i in 0..m {
-        let at = edge_start(n, i);
-        check_edge(file, at, n, least)?;
-        least = edge_key(file, at) + 1;
+    for i in 0..file.edges {
+        let at = file.edge_start(i);
+        check_edge(file.bytes, at, file.vertices, least)?;
+        least = edge_key(file.bytes, at) + 1;
     }
     Ok(())
 }
@@ -135,18 +130,19 @@ fn check_pair(file: &[u8], at: usize, n: usize, least: u32) -> Result<(), Refusa
     Ok(())
 }
 
-// Refuses the first pair at fault. `least` is one more than the last pair's key.
-fn check_pairs(file: &[u8], n: usize, m: usize) -> Result<(), Refusal>
-    requires { (n ≡ vertex_count file.now) × (m ≡ edge_count file.now) × (n ≤ max_vertices)
-        × (m ≤ max_edges) × (pair_start file.now (pair_count file.now) ≤ bits_in file.now) }
-    ensures { fault_of result ≡ query_pairs_fault file.now (pair_count file.now) }
+// Refuses the first pair at fault. `least` is one more than the last pair's key. Edges have a loop of their own:
+// one loop for both would be lent the place, the test and the key as three closures.
+fn check_pairs(file: QueryFile) -> Result<(), Refusal>
+    requires { pair_start file.bytes.now (pair_count file.bytes.now) ≤ bits_in file.bytes.now }
+    ensures { fault_of result ≡ query_pairs_fault file.entry.bytes.now
+        (pair_count file.entry.bytes.now) }
 {
-    let k = pair_count(file, n, m);
+    let k = file.pair_count();
     let mut least = 0;
     for i in 0..k {
-        let at = pair_start(n, m, i);
-        check_pair(file, at, n, least)?;
-        least = pair_key(file, at) + 1;
+        let at = file.pair_start(i);
+        check_pair(file.bytes, at, file.vertices, least)?;
+        least = pair_key(file.bytes, at) + 1;
     }
     Ok(())
 }
@@ -158,11 +154,10 @@ pub fn check_file(file: &[u8]) -> Result<(), Refusal>
     if file.len() < 2 {
         return Err(Refusal::QueryShort);
     }
-    let n = vertex_count(file);
-    let m = edge_count(file);
-    check_limits(n, m)?;
-    check_sizes(file, n, m)?;
-    check_days(file, n)?;
-    check_edges(file, n, m)?;
-    check_pairs(file, n, m)
+    check_limits(vertex_count(file), edge_count(file))?;
+    let file = QueryFile::of(file);
+    check_sizes(file)?;
+    check_days(file)?;
+    check_edges(file)?;
+    check_pairs(file)
 }

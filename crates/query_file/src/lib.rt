@@ -4,13 +4,13 @@
 // `query`.
 #![tactic(auto)]
 
-ghost use Rattle.std.specs.Prelude.{◌≡◌, map, ◌+◌, ◌*◌, ◌^◌, ◌≤◌, ◌<◌, length};
+ghost use Rattle.std.specs.Prelude.{◌≡◌, false, map, ◌+◌, ◌*◌, ◌^◌, ◌≤◌, ◌<◌, length};
 ghost use Rattle.refusals.specs.Refusals.{fault_of};
 ghost use Rattle.lists.specs.Lists.{range};
 ghost use Rattle.packed.specs.Field.{bits_in};
 ghost use Rattle.query.specs.File.{max_vertices, max_edges, max_pairs, vertex_count, edge_count, pair_count};
-ghost use Rattle.query.specs.File.{vertex_start, pair_start, query_of, query_fault};
-ghost use Rattle.query_file.specs.Inner.Parts.{vertex_field, edge_field, pair_field, Readable};
+ghost use Rattle.query.specs.File.{edge_start, pair_start, outside_limits, query_of, query_fault};
+ghost use Rattle.query_file.specs.Inner.Parts.{part_field, Readable};
 ghost use Rattle.query.specs.Answer.{padded, struct_of, read_answer};
 
 use packed::field;
@@ -33,74 +33,76 @@ fn edge_count(file: &[u8]) -> usize
     field(file, 4, 5) as usize
 }
 
-// The bit position of edge i in a file of n vertices.
-fn edge_start(n: usize, i: usize) -> usize
-    requires { (n ≤ max_vertices) × (i ≤ max_edges) }
-    ensures { result ≡ 9 + 48 * n + 14 * i }
-{
-    9 + 48 * n + 14 * i
+// A query file whose counts are within their limits, with these.
+#[derive(Clone, Copy)]
+struct QueryFile<'a> {
+    bytes: &'a [u8],
+    // n.
+    vertices: usize,
+    // m.
+    edges: usize,
+    ghost counted: { (vertices ≡ vertex_count bytes.now) × (edges ≡ edge_count bytes.now) },
+    ghost limited: { (vertices ≤ max_vertices) × (edges ≤ max_edges) },
 }
 
-// The bit position of pair i in a file of n vertices and m edges.
-fn pair_start(n: usize, m: usize, i: usize) -> usize
-    requires { (n ≤ max_vertices) × (m ≤ max_edges) × (i ≤ max_pairs) }
-    ensures { result ≡ 13 + 48 * n + 14 * m + 6 * i }
-{
-    13 + 48 * n + 14 * m + 6 * i
-}
-
-// How many pairs follow the edges.
-fn pair_count(file: &[u8], n: usize, m: usize) -> usize
-    requires { (n ≡ vertex_count file.now) × (m ≡ edge_count file.now) × (n ≤ max_vertices)
-        × (m ≤ max_edges) × (pair_start file.now 0 ≤ bits_in file.now) }
-    ensures { result ≡ pair_count file.now }
-{
-    field(file, edge_start(n, m), 4) as usize
-}
-
-// One field of each of the n vertices of a file: 16 bits, `offset` bits past the vertex's start; 0 past them.
-fn vertex_fields(file: &[u8], n: usize, offset: usize) -> [u32; Query::MAX_VERTICES]
-    requires { (offset + 16 ≤ 48) × (n ≤ max_vertices) × (vertex_start n ≤ bits_in file.now) }
-    ensures { result ≡ padded max_vertices (map (vertex_field file.now offset) (range n)) }
-{
-    let mut a = [0u32; Query::MAX_VERTICES];
-    for w in 0..n {
-        a[w] = field(file, 9 + 48 * w + offset, 16);
+impl<'a> QueryFile<'a> {
+    fn of(bytes: &'a [u8]) -> Self
+        requires { (2 ≤ length bytes.now) × (outside_limits bytes.now ≡ false) }
+        ensures { (result.bytes.now ≡ bytes.now) × (result.vertices ≡ vertex_count bytes.now)
+            × (result.edges ≡ edge_count bytes.now) }
+    {
+        QueryFile {
+            bytes,
+            vertices: vertex_count(bytes),
+            edges: edge_count(bytes),
+        }
     }
-    a
-}
 
-// One field of each of the m edges from bit position `at` on: `width` bits, `offset` bits past the edge's
-// start; 0 past them.
-fn edge_fields(
-    file: &[u8],
-    at: usize,
-    m: usize,
-    offset: usize,
-    width: usize,
-) -> [u32; Query::MAX_EDGES]
-    requires { (offset + width ≤ 14) × (m ≤ max_edges) × (at < 2 ^ 32)
-        × (at + 14 * m ≤ bits_in file.now) }
-    ensures { result ≡ padded max_edges (map (edge_field file.now at offset width) (range m)) }
-{
-    let mut a = [0u32; Query::MAX_EDGES];
-    for i in 0..m {
-        a[i] = field(file, at + 14 * i + offset, width);
+    // The bit position of edge i.
+    fn edge_start(self, i: usize) -> usize
+        requires { i ≤ max_edges }
+        ensures { result ≡ edge_start self.entry.bytes.now i }
+    {
+        9 + 48 * self.vertices + 14 * i
     }
-    a
-}
 
-// One field of each of the k pairs from bit position `at` on: 3 bits, `offset` bits past the pair's start; 0
-// past them.
-fn pair_fields(file: &[u8], at: usize, k: usize, offset: usize) -> [u32; Query::MAX_PAIRS]
-    requires { (offset + 3 ≤ 6) × (k ≤ max_pairs) × (at < 2 ^ 32) × (at + 6 * k ≤ bits_in file.now) }
-    ensures { result ≡ padded max_pairs (map (pair_field file.now at offset) (range k)) }
-{
-    let mut a = [0u32; Query::MAX_PAIRS];
-    for i in 0..k {
-        a[i] = field(file, at + 6 * i + offset, 3);
+    // The bit position of pair i.
+    fn pair_start(self, i: usize) -> usize
+        requires { i ≤ max_pairs }
+        ensures { result ≡ pair_start self.entry.bytes.now i }
+    {
+        self.edge_start(self.edges) + 4 + 6 * i
     }
-    a
+
+    // How many pairs follow the edges.
+    fn pair_count(self) -> usize
+        requires { pair_start self.bytes.now 0 ≤ bits_in self.bytes.now }
+        ensures { (result ≡ pair_count self.entry.bytes.now) × (result ≤ max_pairs) }
+    {
+        field(self.bytes, self.edge_start(self.edges), 4) as usize
+    }
+
+    // A field of each of `count` parts of `step` bits, of which the first begins at bit position `at`: `width`
+    // bits, `offset` bits past the part's start; 0 past the last part.
+    fn fields<const N: usize>(
+        self,
+        at: usize,
+        count: usize,
+        step: usize,
+        offset: usize,
+        width: usize,
+    ) -> [u32; N]
+        requires { (offset + width ≤ step) × (width ≤ 25) × (count ≤ N) × (at + step * count < 2 ^ 32)
+            × (at + step * count ≤ bits_in self.bytes.now) }
+        ensures { result ≡ padded N (map (part_field self.entry.bytes.now at step offset width)
+            (range count)) }
+    {
+        let mut a = [0u32; N];
+        for i in 0..count {
+            a[i] = field(self.bytes, at + step * i + offset, width);
+        }
+        a
+    }
 }
 
 // The query that a file holds.
@@ -108,19 +110,20 @@ pub fn query_of(file: &[u8]) -> Query
     requires { Readable file.now }
     ensures { result ≡ struct_of (query_of file.now) }
 {
-    let n = vertex_count(file);
-    let m = edge_count(file);
-    let at = 9 + 48 * n;
-    let labels = vertex_fields(file, n, 0);
-    let firsts = vertex_fields(file, n, 16);
-    let lasts = vertex_fields(file, n, 32);
-    let sources = edge_fields(file, at, m, 0, 3);
-    let targets = edge_fields(file, at, m, 3, 3);
-    let edge_labels = edge_fields(file, at, m, 6, 8);
-    let k = pair_count(file, n, m);
-    let from = at + 14 * m + 4;
-    let lows = pair_fields(file, from, k, 0);
-    let highs = pair_fields(file, from, k, 3);
+    let file = QueryFile::of(file);
+    let n = file.vertices;
+    let m = file.edges;
+    let at = file.edge_start(0);
+    let labels = file.fields(9, n, 48, 0, 16);
+    let firsts = file.fields(9, n, 48, 16, 16);
+    let lasts = file.fields(9, n, 48, 32, 16);
+    let sources = file.fields(at, m, 14, 0, 3);
+    let targets = file.fields(at, m, 14, 3, 3);
+    let edge_labels = file.fields(at, m, 14, 6, 8);
+    let k = file.pair_count();
+    let from = file.pair_start(0);
+    let lows = file.fields(from, k, 6, 0, 3);
+    let highs = file.fields(from, k, 6, 3, 3);
     Query {
         vertices: n,
         edges: m,

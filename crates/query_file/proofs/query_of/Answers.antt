@@ -1,93 +1,27 @@
 -- `query_file::query_of` meets its contract: each array has one field of the file's query. Assumes nothing.
-use mathlib.Core.Path.{refl}
+use mathlib.Core.Path.{◌∙◌, ap}
+use mathlib.Core.List.{List}
+use Prim.Native.Nat.{ℕ}
 use native.Mathlib.Omega.{arith}
-use Rattle.query_file.proofs.Structs.{at-most-vertices, at-most-edges, at-most-pairs, struct-read}
-use borrow.Author.Rules.{rules}
+use Rattle.query.specs.File.{query_of}
+use Rattle.query.specs.Answer.{struct_of}
+use Rattle.query_file.proofs.Structs.{struct-read}
 use Rattle.query_file.proofs.query_of.Goals as goal
 
-pub overflow_mul-at : goal.overflow_mul-at
-overflow_mul-at c = let few = at-most-vertices c.args.file.now c.requires.limits in
-    search rules
+pub of-file-requires : goal.of-file-requires
+of-file-requires c = (omega (arith, c.requires.bits), c.requires.limits)
 
-pub overflow_add-at : goal.overflow_add-at
-overflow_add-at c = let few = at-most-vertices c.args.file.now c.requires.limits in
-    search rules
+pub fields-lows-requires : goal.fields-lows-requires
+fields-lows-requires c = let bits = rw (← c.of-file.ensures.0) at c.requires.bits in
+    omega (arith, bits)
 
-pub vertex_fields-labels-requires : goal.vertex_fields-labels-requires
-vertex_fields-labels-requires c = let s = c.args.file.now in
-    let few = at-most-vertices s c.requires.limits in
-    let m-few = at-most-edges s c.requires.limits in
-    omega arith
-
-pub vertex_fields-firsts-requires : goal.vertex_fields-firsts-requires
-vertex_fields-firsts-requires c = let s = c.args.file.now in
-    let few = at-most-vertices s c.requires.limits in
-    let m-few = at-most-edges s c.requires.limits in
-    omega arith
-
-pub vertex_fields-lasts-requires : goal.vertex_fields-lasts-requires
-vertex_fields-lasts-requires c = let s = c.args.file.now in
-    let few = at-most-vertices s c.requires.limits in
-    let m-few = at-most-edges s c.requires.limits in
-    omega arith
-
-pub edge_fields-sources-requires : goal.edge_fields-sources-requires
-edge_fields-sources-requires c = let s = c.args.file.now in
-    let few = at-most-vertices s c.requires.limits in
-    let m-few = at-most-edges s c.requires.limits in
-    omega arith
-
-pub edge_fields-targets-requires : goal.edge_fields-targets-requires
-edge_fields-targets-requires c = let s = c.args.file.now in
-    let few = at-most-vertices s c.requires.limits in
-    let m-few = at-most-edges s c.requires.limits in
-    omega arith
-
-pub edge_fields-edge_labels-requires : goal.edge_fields-edge_labels-requires
-edge_fields-edge_labels-requires c = let s = c.args.file.now in
-    let few = at-most-vertices s c.requires.limits in
-    let m-few = at-most-edges s c.requires.limits in
-    omega arith
-
-pub pair_count-k-requires : goal.pair_count-k-requires
-pair_count-k-requires c = let s = c.args.file.now in
-    let few = at-most-vertices s c.requires.limits in
-    let m-few = at-most-edges s c.requires.limits in
-    (c.vertex_count-n.ensures, c.edge_count-m.ensures, omega arith, omega arith, omega arith)
-
-pub overflow_mul-from : goal.overflow_mul-from
-overflow_mul-from c = let s = c.args.file.now in
-    let few = at-most-vertices s c.requires.limits in
-    let m-few = at-most-edges s c.requires.limits in
-    search rules
-
-pub overflow_add-from : goal.overflow_add-from
-overflow_add-from c = let s = c.args.file.now in
-    let few = at-most-vertices s c.requires.limits in
-    let m-few = at-most-edges s c.requires.limits in
-    search rules
-
-pub overflow_add-from-2 : goal.overflow_add-from-2
-overflow_add-from-2 c = let s = c.args.file.now in
-    let few = at-most-vertices s c.requires.limits in
-    let m-few = at-most-edges s c.requires.limits in
-    search rules
-
-pub pair_fields-lows-requires : goal.pair_fields-lows-requires
-pair_fields-lows-requires c = let s = c.args.file.now in
-    let few = at-most-vertices s c.requires.limits in
-    let m-few = at-most-edges s c.requires.limits in
-    let p-few = at-most-pairs s in
-    omega arith
-
-pub pair_fields-highs-requires : goal.pair_fields-highs-requires
-pair_fields-highs-requires c = let s = c.args.file.now in
-    let few = at-most-vertices s c.requires.limits in
-    let m-few = at-most-edges s c.requires.limits in
-    let p-few = at-most-pairs s in
-    omega arith
+pub fields-highs-requires : goal.fields-highs-requires
+fields-highs-requires c = let bits = rw (← c.of-file.ensures.0) at c.requires.bits in
+    omega (arith, bits)
 
 pub returns : goal.returns
-returns c = struct-read c.args.file.now _ _ _ _ _ c.vertex_count-n.ensures c.edge_count-m.ensures c.pair_count-k.ensures refl refl
-    _ _ _ _ _ _ _ _ c.vertex_fields-labels.ensures c.vertex_fields-firsts.ensures c.vertex_fields-lasts.ensures
-    c.edge_fields-sources.ensures c.edge_fields-targets.ensures c.edge_fields-edge_labels.ensures c.pair_fields-lows.ensures c.pair_fields-highs.ensures
+returns c = struct-read c.of-file.result.bytes.now _ _ _ _ _ c.of-file.result.counted.0 c.of-file.result.counted.1 c.pair_count-k.ensures.0
+    (omega arith) (omega arith)
+    _ _ _ _ _ _ _ _ c.fields-labels.ensures c.fields-firsts.ensures c.fields-lasts.ensures
+    c.fields-sources.ensures c.fields-targets.ensures c.fields-edge_labels.ensures c.fields-lows.ensures c.fields-highs.ensures
+    ∙ ap (λ (s : List ℕ). struct_of (query_of s)) c.of-file.ensures.0

@@ -10,6 +10,11 @@ use Rattle.query.specs.File.{min_vertices, max_vertices, min_edges, max_edges, v
 use Rattle.query.specs.File.{vertex_start, pair_start, outside_limits, counted_size, day_fault, key, bad_edge}
 use Rattle.query.specs.File.{edge_fault, pair_key, bad_pair, pair_fault}
 
+-- A field of part i of those that begin at a bit position and are `step` bits each: w bits, o bits past the
+-- part's start.
+abbrev pub part_field : List ℕ → ℕ → ℕ → ℕ → ℕ → ℕ → ℕ
+part_field s at step o w i = field_at s (at + step * i + o) w
+
 -- A field of vertex w: 16 bits, o bits past the vertex's start.
 abbrev pub vertex_field : List ℕ → ℕ → ℕ → ℕ
 vertex_field s o w = field_at s (vertex_start w + o) 16

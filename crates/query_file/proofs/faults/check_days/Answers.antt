@@ -15,13 +15,13 @@ loop-w-init c = (omega arith, refl)
 pub returns-then-last-first : goal.returns-then-last-first
 returns-then-last-first c = let a = c.args in
     let l = c.loop-w in
-    sym (days-stop a.file.now l.w l.invariant.1 a.n (search rules) (omega arith))
+    sym (days-stop a.file.bytes.now l.w l.invariant.1 a.file.vertices (search rules) (omega arith))
 
 pub loop-w-preserved : goal.loop-w-preserved
 loop-w-preserved c = let a = c.args in
     let l = c.loop-w in
-    (omega arith, days-next a.file.now l.w l.invariant.1 (omega arith))
+    (omega arith, days-next a.file.bytes.now l.w l.invariant.1 (omega arith))
 
 pub returns : goal.returns
-returns c = let all : c.loop-w.w ≡ c.args.n = omega arith in
+returns c = let all : c.loop-w.w ≡ c.args.file.vertices = omega arith in
     sym (rw all at c.loop-w.invariant.1)

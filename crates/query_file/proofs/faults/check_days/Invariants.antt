@@ -5,4 +5,4 @@ use Rattle.query_file.specs.Inner.Parts.{query_days_fault}
 use Rattle.query_file.proofs.faults.check_days.Given as goal
 
 abbrev pub invariant-loop-w : goal.invariant-loop-w
-invariant-loop-w l = (l.w ≤ l.n) × (query_days_fault l.file l.w ≡ 0)
+invariant-loop-w l = (l.w ≤ l.file.vertices) × (query_days_fault l.file.bytes.now l.w ≡ 0)

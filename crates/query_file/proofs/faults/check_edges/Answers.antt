@@ -20,23 +20,23 @@ returns-in_err-check_edge c =
     let p = err_from_is_err_and c.from_residual.result c.from_residual.ensures.1 in
     let a = c.args in
     let l = c.loop-i in
-    let here = fault-here a.file.now a.n _ l.i c.requires.0 c.edge_start-at.ensures l.least _ l.invariant.2 c.in_err-check_edge.ensures in
-    rw (p.1, p.2) (here ∙ sym (edges-stop a.file.now a.m l.i (search rules) l.invariant.1 (λ z. numbered _ (here ∙ z))))
+    let here = fault-here a.file.bytes.now a.file.vertices _ l.i c.args.file.counted.0 c.edge_start-at.ensures l.least _ l.invariant.2 c.in_err-check_edge.ensures in
+    rw (p.1, p.2) (here ∙ sym (edges-stop a.file.bytes.now a.file.edges l.i (search rules) l.invariant.1 (λ z. numbered _ (here ∙ z))))
 
 pub overflow_add-least : goal.overflow_add-least
 overflow_add-least c = let a = c.args in
-    omega (arith, key-lt a.file.now c.edge_start-at.result)
+    omega (arith, key-lt a.file.bytes.now c.edge_start-at.result)
 
 pub loop-i-preserved : goal.loop-i-preserved
 loop-i-preserved c = let a = c.args in
     let l = c.loop-i in
-    let count = c.requires.0 in
-    let none = sym (fault-here a.file.now a.n _ l.i count c.edge_start-at.ensures l.least _ l.invariant.2 c.in_ok-check_edge.ensures) in (
+    let count = c.args.file.counted.0 in
+    let none = sym (fault-here a.file.bytes.now a.file.vertices _ l.i count c.edge_start-at.ensures l.least _ l.invariant.2 c.in_ok-check_edge.ensures) in (
       omega arith,
-      edges-next a.file.now l.i l.invariant.1 none,
-      least-next a.file.now a.n _ l.i count c.edge_start-at.ensures c.edge_key-least.result c.edge_key-least.ensures,
+      edges-next a.file.bytes.now l.i l.invariant.1 none,
+      least-next a.file.bytes.now a.file.vertices _ l.i count c.edge_start-at.ensures c.edge_key-least.result c.edge_key-least.ensures,
     )
 
 pub returns : goal.returns
-returns c = let all : c.loop-i.i ≡ c.args.m = omega arith in
+returns c = let all : c.loop-i.i ≡ c.args.file.edges = omega arith in
     sym (rw all at c.loop-i.invariant.1)

@@ -7,4 +7,4 @@ use Rattle.query_file.proofs.FileLaws.{least_key}
 use Rattle.query_file.proofs.faults.check_edges.Given as goal
 
 abbrev pub invariant-loop-i : goal.invariant-loop-i
-invariant-loop-i l = (l.i ≤ l.m) × (query_edges_fault l.file l.i ≡ 0) × (l.least ≡ least_key l.file l.i)
+invariant-loop-i l = (l.i ≤ l.file.edges) × (query_edges_fault l.file.bytes.now l.i ≡ 0) × (l.least ≡ least_key l.file.bytes.now l.i)

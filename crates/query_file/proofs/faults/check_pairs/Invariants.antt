@@ -7,4 +7,4 @@ use Rattle.query_file.proofs.FileLaws.{least_pair}
 use Rattle.query_file.proofs.faults.check_pairs.Given as goal
 
 abbrev pub invariant-loop-i : goal.invariant-loop-i
-invariant-loop-i l = (l.i ≤ l.k) × (query_pairs_fault l.file l.i ≡ 0) × (l.least ≡ least_pair l.file l.i)
+invariant-loop-i l = (l.i ≤ l.k) × (query_pairs_fault l.file.bytes.now l.i ≡ 0) × (l.least ≡ least_pair l.file.bytes.now l.i)

@@ -10,20 +10,16 @@ use Rattle.query_file.proofs.FileLaws.{counted-first, sizes-last}
 use Rattle.query_file.proofs.faults.check_sizes.Goals as goal
 
 pub returns-then-file-bytes_for : goal.returns-then-file-bytes_for
-returns-then-file-bytes_for c = let s = c.args.file.now in
+returns-then-file-bytes_for c = let s = c.args.file.bytes.now in
     let short : length s < counted_size s = omega arith in
     sym (counted-first s short)
 
-pub pair_start-requires-2 : goal.pair_start-requires-2
-pair_start-requires-2 c = let s = c.args.file.now in
-    omega (arith, at-most-pairs s)
-
 pub check_size-requires : goal.check_size-requires
-check_size-requires c = let s = c.args.file.now in
+check_size-requires c = let s = c.args.file.bytes.now in
     omega (arith, at-most-pairs s)
 
 pub returns : goal.returns
-returns c = let s = c.args.file.now in
+returns c = let s = c.args.file.bytes.now in
     let long : counted_size s ≤ length s = omega arith in
     let place : c.pair_start-2.result ≡ pair_start s (pair_count s) = omega arith in
     c.check_size.ensures ∙ ap (size_fault s) place ∙ sym (sizes-last s long)
