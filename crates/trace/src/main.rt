@@ -3,15 +3,16 @@
 // refusal. It reads, calls and prints; what it prints is computed by `load` and `run`.
 #![tactic(auto)]
 
+ghost use Rattle.std.specs.Prelude.{◌≡◌, ℕ};
 ghost use Rattle.io.specs.Counts.{IsPrefixLen};
 
 use lending::Lending;
 use plan::Plan;
-use run_spec::Record;
+use run_spec::{Record, RunAnswer};
 use std::fs::File;
-use std::io;
 use std::io::Read;
 use std::rt::Files;
+use std::{fmt, io};
 
 // The longest file that is taken, in bytes. A buffer holds one byte more, by which a longer file is known.
 const MAX_BYTES: usize = 8192;
@@ -24,152 +25,119 @@ const SCRATCH_WORDS: usize = 2048;
 
 const LIST_WORDS: usize = 2048;
 
-// Reads until the buffer is full or the file ends, and answers how many bytes came; 0 where a read fails,
-// whatever came before.
-fn read_all(file: &mut impl Read, buffer: &mut [u8]) -> usize
-    ensures { IsPrefixLen result buffer.new }
+// Why there are no rows to print: a file is too long, or an operation refuses.
+#[derive(Drop)]
+enum Stop {
+    Long(&'static str),
+    Refused(u32),
+}
+
+impl fmt::Display for Stop {
+    fn fmt<W: fmt::Write>(&self, f: &mut fmt::Formatter<W>) -> fmt::Result {
+        match self {
+            Stop::Long(name) => write!(f, "long {name}"),
+            Stop::Refused(refusal) => write!(f, "refused {refusal}"),
+        }
+    }
+}
+
+// What a run answered, and how many words a row of its list has.
+#[derive(Drop)]
+struct Traced {
+    answer: RunAnswer,
+    width: usize,
+}
+
+// Reads until the buffer is full or the file ends, and answers how many bytes came.
+fn read_all(file: &mut impl Read, buffer: &mut [u8]) -> io::Result<usize>
+    ensures { (n : ℕ) → result ≡ Ok n → IsPrefixLen n buffer.new }
 {
     let mut done = 0;
     while done < buffer.len() {
-        let more = match file.read(&mut buffer[done..]) {
-            Ok(more) => more,
-            Err(_) => return 0,
-        };
+        let more = file.read(&mut buffer[done..])?;
         if more == 0 {
             break;
         }
         done += more;
     }
-    done
+    Ok(done)
 }
 
-// Reads a file as far as the buffer goes and answers how many bytes came; 0 where the file is missing or
-// can't be read to its end.
-fn read(rt: &impl Files, name: &str, buffer: &mut [u8]) -> usize
-    ensures { IsPrefixLen result buffer.new }
-{
-    match File::open(rt, name) {
-        Ok(mut file) => read_all(&mut file, buffer),
+// Reads a file. One that is missing or can't be read to its end has no bytes.
+fn read<'a>(rt: &impl Files, name: &'static str, buffer: &'a mut [u8]) -> Result<&'a [u8], Stop> {
+    let bytes = match File::open(rt, name) {
+        Ok(mut file) => read_all(&mut file, buffer).unwrap_or(0),
         Err(_) => 0,
+    };
+    if MAX_BYTES < bytes {
+        return Err(Stop::Long(name));
     }
+    Ok(&buffer[..bytes])
 }
 
-fn print_field(rt: &impl Print, name: &[u8], value: u64) -> io::Result<()> {
-    rt.write_all(name)?;
-    rt.write_all(b" ")?;
-    rt.print(value)
+// Runs the plan over a loaded store, with as many records as the longest plan has operators. They are not
+// printed.
+fn run(store: &[u32], query: &[u8], plan: &[u8], list: &mut [u32]) -> Result<Traced, Stop> {
+    let mut scratch = [0u32; SCRATCH_WORDS];
+    let records = Lending {
+        records: [Record { rows: 0, cost: 0 }; Plan::MAX_OPERATORS],
+        lent: Plan::MAX_OPERATORS,
+    };
+    let filled = lending::run_lending(store, query, plan, true, &mut scratch, list, records);
+    let answer = filled.answer;
+    if answer.refusal != 0 {
+        return Err(Stop::Refused(answer.refusal));
+    }
+    Ok(Traced {
+        answer,
+        width: query_file::read_query(query).query.vertices,
+    })
 }
 
-fn print_long(rt: &impl Print, name: &[u8]) -> io::Result<()> {
-    rt.write_all(b"long ")?;
-    rt.write_all(name)?;
-    rt.write_all(b"\n")
-}
-
-fn print_refused(rt: &impl Print, refusal: u32) -> io::Result<()> {
-    print_field(rt, b"refused", refusal as u64)?;
-    rt.write_all(b"\n")
-}
-
-fn print_word(rt: &impl Print, word: u32) -> io::Result<()> {
-    rt.print(word)
+fn trace(rt: &impl Files, list: &mut [u32]) -> Result<Traced, Stop> {
+    let mut g = [0u8; BUFFER_BYTES];
+    let mut q = [0u8; BUFFER_BYTES];
+    let mut p = [0u8; BUFFER_BYTES];
+    let graph = read(rt, "g.bin", &mut g)?;
+    let query = read(rt, "q.bin", &mut q)?;
+    let plan = read(rt, "p.bin", &mut p)?;
+    let mut store = [0u32; STORE_WORDS];
+    let loaded = load::load(graph, &mut store);
+    if loaded.refusal != 0 {
+        return Err(Stop::Refused(loaded.refusal));
+    }
+    run(&store, query, plan, list)
 }
 
 fn print_row(rt: &impl Print, row: &[u32]) -> io::Result<()> {
-    let mut i = 0;
-    while i < row.len() {
+    for (i, vertex) in row.iter().enumerate() {
         if i != 0 {
-            rt.write_all(b" ")?;
+            print!(rt; " ")?;
         }
-        print_word(rt, row[i])?;
-        i += 1;
+        print!(rt; "{vertex}")?;
     }
-    rt.write_all(b"\n")
+    println!(rt; "")
 }
 
-// The first rows of a list, n words each, as far as the list goes.
-fn print_rows(rt: &impl Print, list: &[u32], n: usize, rows: usize) -> io::Result<()> {
-    let mut at = 0;
-    let mut i = 0;
-    while i < rows {
-        if list.len() < n {
-            return Ok(());
-        }
-        if list.len() - n < at {
-            return Ok(());
-        }
-        let end = at + n;
-        print_row(rt, &list[at..end])?;
-        at = end;
-        i += 1;
+// The answer, and the rows as far as the list goes.
+fn print_traced(rt: &impl Print, traced: &Traced, list: &[u32]) -> io::Result<()> {
+    let a = traced.answer;
+    let rows = a.rows;
+    let cost = a.cost;
+    let build = a.build;
+    let probe = a.probe;
+    println!(rt; "matches {rows} cost {cost} build {build} probe {probe}")?;
+    // A query that is accepted has vertices.
+    for row in list.chunks_exact(traced.width.max(1)).take(rows) {
+        print_row(rt, row)?;
     }
     Ok(())
 }
 
-fn print_matches(
-    rt: &impl Print,
-    rows: usize,
-    cost: u64,
-    build: u64,
-    probe: u64,
-) -> io::Result<()> {
-    print_field(rt, b"matches", rows as u64)?;
-    print_field(rt, b" cost", cost)?;
-    print_field(rt, b" build", build)?;
-    print_field(rt, b" probe", probe)?;
-    rt.write_all(b"\n")
-}
-
-// As many records as the longest plan has operators. They are not printed.
-fn records() -> Lending {
-    Lending {
-        records: [Record { rows: 0, cost: 0 }; Plan::MAX_OPERATORS],
-        lent: Plan::MAX_OPERATORS,
-    }
-}
-
-// Runs the plan over a loaded store.
-fn trace_store(rt: &impl Print, store: &[u32], query: &[u8], plan: &[u8]) -> io::Result<()> {
-    let mut scratch = [0u32; SCRATCH_WORDS];
-    let mut list = [0u32; LIST_WORDS];
-    let filled = lending::run_lending(store, query, plan, true, &mut scratch, &mut list, records());
-    let answer = filled.answer;
-    if answer.refusal != 0 {
-        return print_refused(rt, answer.refusal);
-    }
-    print_matches(rt, answer.rows, answer.cost, answer.build, answer.probe)?;
-    print_rows(
-        rt,
-        &list,
-        query_file::read_query(query).query.vertices,
-        answer.rows,
-    )
-}
-
-fn trace(rt: &impl Print, graph: &[u8], query: &[u8], plan: &[u8]) -> io::Result<()> {
-    let mut store = [0u32; STORE_WORDS];
-    let loaded = load::load(graph, &mut store);
-    if loaded.refusal != 0 {
-        return print_refused(rt, loaded.refusal);
-    }
-    trace_store(rt, &store, query, plan)
-}
-
 fn main(rt: HostRuntime) -> io::Result<()> {
-    let mut g = [0u8; BUFFER_BYTES];
-    let mut q = [0u8; BUFFER_BYTES];
-    let mut p = [0u8; BUFFER_BYTES];
-    let graph = read(&rt, "g.bin", &mut g);
-    if MAX_BYTES < graph {
-        return print_long(&rt, b"g.bin");
+    let mut list = [0u32; LIST_WORDS];
+    match trace(&rt, &mut list) {
+        Ok(traced) => print_traced(&rt, &traced, &list),
+        Err(stop) => rt.println(stop),
     }
-    let query = read(&rt, "q.bin", &mut q);
-    if MAX_BYTES < query {
-        return print_long(&rt, b"q.bin");
-    }
-    let plan = read(&rt, "p.bin", &mut p);
-    if MAX_BYTES < plan {
-        return print_long(&rt, b"p.bin");
-    }
-    trace(&rt, &g[..graph], &q[..query], &p[..plan])
 }
