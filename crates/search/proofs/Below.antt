@@ -2,17 +2,18 @@
 use mathlib.Core.Path.{◌≡◌, refl, sym, ◌∙◌, ap}
 use mathlib.Core.Bool.{Bool, true, false, ◌&&◌, or-false}
 use mathlib.Core.List.{List, [], ◌∷◌}
-use Prim.Native.Nat.{ℕ, zero, suc, ◌≤◌, ◌<◌, zero-le}
+use Prim.Native.Nat.{ℕ, zero, suc, ◌+◌, ◌≤◌, ◌<◌, zero-le}
 use native.Mathlib.Nat.{zero-add}
 use native.Mathlib.Omega.{arith}
 use lib.Dec.{eqb, leb, ltb, leb-suc-suc}
 use lib.ListN.{length, get_or, take, drop}
 use lib.Seq.{take-nil, drop-nil}
 use borrow.Author.Tests.{ltb-true, ltb-false, lt-ltb, le-ltb, le-leb, lt-leb, ne_eqb}
-use Rattle.lists.specs.Lists.{any, keep, count_if, ascending}
+use Rattle.std.proofs.lemmas.List.{take_more}
+use Rattle.lists.specs.Lists.{bit, any, keep, count_if, ascending}
 use Rattle.lists.proofs.Tests.{eqb-sym}
 use Rattle.lists.proofs.All.{all_get_d, all-follows, keep_all, keep-none}
-use Rattle.lists.proofs.Count.{count-le, count-passes}
+use Rattle.lists.proofs.Count.{count-le, count-passes, count-snoc}
 use Rattle.lists.proofs.Sort.{ascends-tail}
 use Rattle.lists.proofs.Ascending.{ascending-above, ascending-rest}
 use Rattle.lists.proofs.Any.{any-fails}
@@ -21,6 +22,16 @@ use Rattle.search.specs.Inner.Search.{below}
 pub below-le : (x : ℕ) (s : List ℕ) → below x s ≤ length s
 unfolding below
 below-le x s = count-le (λ (w : ℕ). ltb w x) s
+
+-- Words counted one after the other.
+pub below_none : (x : ℕ) (s : List ℕ) → 0 ≡ below x (take 0 s)
+unfolding below count_if
+below_none x s = refl
+
+pub below-word : (x : ℕ) (s : List ℕ) {i n a : ℕ} → i < length s → n ≡ below x (take i s) → a ≡ bit (ltb (get_or s i 0) x) → n + a ≡ below x (take (i + 1) s)
+unfolding below
+below-word x s {i} h e f =
+    rw (e, f, take_more s i 0 h) (sym (count-snoc (λ (w : ℕ). ltb w x) (take i s) (get_or s i 0)))
 
 -- A word above x is neither below x nor x.
 not-below : (x w : ℕ) → ltb x w ≡ true → ltb w x ≡ false

@@ -3,7 +3,7 @@ use mathlib.Core.Path.{◌≡◌, sym, ◌∙◌, ap, ap₂}
 use mathlib.Core.Bool.{Bool, true, false, ◌&&◌}
 use mathlib.Core.List.{List}
 use Prim.Native.Nat.{ℕ, ◌+◌, ◌-◌, ◌≤◌, ◌<◌, zero-le}
-use native.Mathlib.Nat.{add-sub_of_le}
+use native.Mathlib.Nat.{zero-add, add-sub_of_le}
 use native.Mathlib.Omega.{arith}
 use lib.Dec.{eqb, ltb}
 use lib.ListN.{length, get_or, take, drop, length-drop}
@@ -14,6 +14,11 @@ use Rattle.lists.proofs.Tests.{iff, fails, and_l, and_r, and_both}
 use Rattle.lists.proofs.Ascending.{ascending-drop, ascending-part}
 use Rattle.search.specs.Inner.Search.{below, first_from}
 use Rattle.search.proofs.Below.{below-le, below-past, below-upto, any_below}
+
+-- From the list's start on it is how many words are below x.
+pub first-below : (s : List ℕ) (x : ℕ) → below x s ≡ first_from s 0 x
+unfolding first_from
+first-below s x = sym (zero-add (below x s))
 
 -- It is an index from `from` on, or the length.
 pub first-from : (s : List ℕ) (from x : ℕ) → from ≤ first_from s from x

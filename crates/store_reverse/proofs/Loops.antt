@@ -13,6 +13,7 @@ use borrow.Author.Tests.{eq-eqb, ne_eqb, ltb-true, le-leb}
 use Rattle.lists.specs.Lists.{range, all, any, ascends_from, ascending}
 use Rattle.lists.proofs.Tests.{clash, fails, and_l, and_r, and_both, eqb-sym}
 use Rattle.lists.proofs.All.{all-at, all-and, all_append}
+use Rattle.std.specs.Prelude.{Some, None}
 use Rattle.search.specs.Inner.Search.{place_of}
 use Rattle.search.proofs.Places.{place_none, place-some}
 use Rattle.adjacency.specs.Inner.Side.{list_on}
@@ -26,12 +27,12 @@ module _ (x : ℕ) (s : List ℕ) where
   is_member : member x s ≡ any (eqb x) s
   is_member = ap (λ (t : ℕ → Bool). any t s) (sym (fun_ext (eqb-sym x)))
 
-  module _ (up : ascending s ≡ true) {r : ℕ} (e : r ≡ place_of s x) where
-    pub unplaced : r ≡ length s → false ≡ member x s
-    unplaced z = sym (is_member ∙ place_none s x up e z)
+  module _ (up : ascending s ≡ true) where
+    pub unplaced : None ≡ place_of s x → false ≡ member x s
+    unplaced e = sym (is_member ∙ place_none s x up e)
 
-    pub placed : (r ≡ length s → ⊥) → true ≡ member x s
-    placed f = sym (is_member ∙ (place-some s x up e f).0)
+    pub placed : {r : ℕ} → Some r ≡ place_of s x → true ≡ member x s
+    placed e = sym (is_member ∙ (place-some s x up e).0)
 
 -- A test fails where one fails that it needs.
 pub fails-with : (a b : Bool) {r : Bool} → r ≡ a → r ≡ false → (b ≡ true → a ≡ true) → false ≡ b

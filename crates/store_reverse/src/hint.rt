@@ -21,10 +21,9 @@ pub fn has_hinted(
     ensures { result ≡ member x list.now }
 {
     let hint = hints[vertex] as usize;
-    let place = find(list, x, hint);
-    if place == list.len() {
+    let Some(place) = find(list, x, hint) else {
         return false;
-    }
+    };
     if hint < list.len() && hint != place {
         return true;
     }

@@ -1,5 +1,5 @@
 -- Searching a list of words. Assumes nothing.
-use Rattle.std.specs.Prelude.{cond, List, ℕ, ◌+◌, eqb, ltb, length, drop}
+use Rattle.std.specs.Prelude.{cond, Option, Some, None, List, ℕ, ◌+◌, eqb, ltb, drop}
 use Rattle.lists.specs.Lists.{any, count_if}
 
 -- How many words are below x.
@@ -11,6 +11,6 @@ below x s = count_if (λ (w : ℕ). ltb w x) s
 unfoldable pub first_from : List ℕ → ℕ → ℕ → ℕ
 first_from s from x = from + below x (drop from s)
 
--- Where x stands in an ascending list: after the words below it; the length, where it is none of the words.
-unfoldable pub place_of : List ℕ → ℕ → ℕ
-place_of s x = cond (any (eqb x) s) (first_from s 0 x) (length s)
+-- Where x stands in an ascending list, if it does: after the words below it.
+unfoldable pub place_of : List ℕ → ℕ → Option ℕ
+place_of s x = cond (any (eqb x) s) (Some (first_from s 0 x)) None
