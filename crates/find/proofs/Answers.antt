@@ -1,14 +1,14 @@
 -- Find's definitions by what decides: refused before a plan is drawn, or as Run settles it. Assumes nothing.
 use mathlib.Core.Path.{◌≡◌, refl, sym, ◌∙◌, ap}
 use mathlib.Core.Bool.{Bool, true, false, cond}
-use mathlib.Core.List.{List, ◌++◌}
+use mathlib.Core.List.{List, [], ◌∷◌, ◌++◌}
 use Prim.Native.Nat.{ℕ, ◌≤◌}
 use native.Mathlib.Omega.{arith}
 use lib.Dec.{eqb}
 use lib.ListN.{length, take, drop, length-append}
 use borrow.Author.Tests.{eqb-true, eqb-false, eq-eqb, ne_eqb}
-use Rattle.lists.specs.Refusal.{answered}
-use Rattle.lists.proofs.Faults.{first-cons, first_some}
+use Rattle.lists.specs.Refusal.{first, answered}
+use Rattle.lists.proofs.Faults.{first-left}
 use Rattle.graph.specs.Graph.{Graph}
 use Rattle.graph.specs.Store.{store_fault}
 use Rattle.query.specs.Query.{Query}
@@ -39,13 +39,9 @@ drawn-room g q before after r d e =
 
 -- Draw plan's refusal by the query's, or by the store's.
 module _ (store query bytes : List ℕ) where
-  pub draw-query : (k : ℕ) → k ≡ query_fault query → (k ≡ 0 → ⊥) → draw_fault store query (length bytes) ≡ k
+  pub draw-early : (k : ℕ) → k ≡ first (query_fault query ∷ store_fault store ∷ []) → (k ≡ 0 → ⊥) → draw_fault store query (length bytes) ≡ k
   unfolding draw_fault
-  draw-query k e bad = first_some _ _ (λ z. bad (e ∙ z)) ∙ sym e
-
-  pub draw-store : query_fault query ≡ 0 → (k : ℕ) → k ≡ store_fault store → (k ≡ 0 → ⊥) → draw_fault store query (length bytes) ≡ k
-  unfolding draw_fault
-  draw-store read k e bad = first-cons _ _ read ∙ first_some _ _ (λ z. bad (e ∙ z)) ∙ sym e
+  draw-early k e bad = first-left (query_fault query ∷ store_fault store ∷ []) _ (λ z. bad (e ∙ z)) ∙ sym e
 
   pub untouched : (k : ℕ) → draw_fault store query (length bytes) ≡ k → (k ≡ 0 → ⊥) → bytes ≡ draw_bytes store query bytes
   unfolding draw_bytes

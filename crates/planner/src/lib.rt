@@ -55,7 +55,7 @@ pub fn draw_accepted(store: &[u32], q: Query, plan: &mut [u8]) -> DrawAnswer
 }
 
 // Refuses a query file as Read query does, then a store that no accepted graph file loads to.
-fn check(store: &[u32], query: &[u8]) -> Result<(), Refusal>
+pub fn check(store: &[u32], query: &[u8]) -> Result<(), Refusal>
     ensures { fault_of result ≡ first (query_fault query.now ∷ store_fault store.now ∷ []) }
 {
     query_file::check_query(query)?;

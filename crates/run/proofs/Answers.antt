@@ -1,16 +1,16 @@
 -- What Run answers and is to record, from the pile of its plan; and Run's definitions by what decides. Assumes nothing.
 use mathlib.Core.Path.{◌≡◌, refl, sym, ◌∙◌, ap, ap₂}
 use mathlib.Core.Bool.{Bool, true, false, cond}
-use mathlib.Core.List.{List, [], ◌++◌}
-use Prim.Native.Nat.{ℕ, ◌+◌, ◌-◌, ◌≤◌}
+use mathlib.Core.List.{List, [], ◌∷◌, ◌++◌}
+use Prim.Native.Nat.{ℕ, ◌≤◌, ◌<◌}
 use native.Mathlib.Omega.{arith}
 use lib.Dec.{eqb, ltb}
 use lib.ListN.{length, take, drop, replicate, length-take}
 use lib.Seq.{take_at, drop_at}
-use borrow.Author.Tests.{eqb-true, le-ltb}
+use borrow.Author.Tests.{eqb-true, ltb-false, lt-ltb, le-ltb}
 use Rattle.lists.specs.Refusal.{answered, refuse}
 use Rattle.lists.proofs.Tests.{fails}
-use Rattle.lists.proofs.Faults.{first-cons, first_some, zero-refuse}
+use Rattle.lists.proofs.Faults.{first_head, first_tail, first-cons, first_some, first_one, first-nil, first-left, refuse-zero, zero-refuse}
 use Rattle.graph.specs.Store.{graph_in, store_fault}
 use Rattle.query.specs.File.{query_of}
 use Rattle.plan.specs.Plan.{max_operators}
@@ -22,9 +22,54 @@ use Rattle.run_spec.specs.Complete.{ListsEveryMatch}
 use Rattle.run_spec.proofs.Records.{count-records}
 use Rattle.run_spec.proofs.Demand.{run-lists-every-match}
 use Rattle.executor.specs.Inner.Answered.{room_fault, records_at, Records, Answered}
-use Rattle.run.specs.Inner.Settled.{Settles}
+use Rattle.run.specs.Inner.Settled.{Settles, records_fault, early_fault}
 use Rattle.records.specs.declared.Recorded.{Recorded}
 use Rattle.executor.proofs.Answers.{refused_with, no-records}
+
+-- The refusals of plan and records.
+module _ (query plan : List ℕ) (lent : ℕ) where
+  pub records-plan : (k : ℕ) → k ≡ check_fault query plan → (k ≡ 0 → ⊥) → k ≡ records_fault query plan lent
+  unfolding records_fault
+  records-plan k e bad = e ∙ sym (first_some _ _ (λ z. bad (e ∙ z)))
+
+  pub records_short : check_fault query plan ≡ 0 → lent < length (operators_of plan) → 22 ≡ records_fault query plan lent
+  unfolding records_fault
+  records_short checked less = sym (first-cons _ _ checked ∙ rw (lt-ltb lent (length (operators_of plan)) less) (first_some 22 _ (λ h. absurd (omega arith))))
+
+  pub records-enough : check_fault query plan ≡ 0 → length (operators_of plan) ≤ lent → 0 ≡ records_fault query plan lent
+  unfolding records_fault
+  records-enough checked room = sym (first-cons _ _ checked ∙ first-cons _ _ (zero-refuse 22 _ (le-ltb lent (length (operators_of plan)) room)) ∙ first-nil)
+
+  module _ (none : records_fault query plan lent ≡ 0) where
+    pub records_checked : check_fault query plan ≡ 0
+    unfolding records_fault
+    records_checked = first_head _ _ none
+
+    no-22 : refuse 22 (ltb lent (length (operators_of plan))) ≡ 0
+    unfolding records_fault
+    no-22 = first_head _ _ (first_tail _ _ none)
+
+    pub records_room : length (operators_of plan) ≤ lent
+    records_room = ltb-false lent (length (operators_of plan)) (refuse-zero 21 _ no-22)
+
+    pub early-store : (store : List ℕ) → store_fault store ≡ early_fault store query plan lent
+    unfolding early_fault
+    early-store store = sym (first-cons _ _ records_checked ∙ first-cons _ _ no-22 ∙ first_one _)
+
+  module _ (store : List ℕ) where
+    pub early-records : (k : ℕ) → k ≡ records_fault query plan lent → (k ≡ 0 → ⊥) → k ≡ early_fault store query plan lent
+    unfolding records_fault early_fault
+    early-records k e bad =
+        e ∙ sym (first-left (check_fault query plan ∷ refuse 22 (ltb lent (length (operators_of plan))) ∷ []) (store_fault store ∷ []) (λ z. bad (e ∙ z)))
+
+    module _ (none : early_fault store query plan lent ≡ 0) where
+      pub early_accepted : records_fault query plan lent ≡ 0
+      unfolding records_fault early_fault
+      early_accepted =
+          first-cons _ _ (first_head _ _ none) ∙ first-cons _ _ (first_head _ _ (first_tail _ _ none)) ∙ first-nil
+
+      pub early_good : store_fault store ≡ 0
+      early_good = early-store early_accepted store ∙ none
 
 -- Run's definitions by the refusal.
 module _ (cache : Bool) (store query plan : List ℕ) (scratch : ℕ) (list : List ℕ) (lent : ℕ) where
@@ -43,22 +88,27 @@ module _ (cache : Bool) (store query plan : List ℕ) (scratch : ℕ) (list : Li
         fits = omega (arith, none);
       }
 
-  pub fault-check : (check_fault query plan ≡ 0 → ⊥) → fault ≡ check_fault query plan
-  unfolding run_fault
-  fault-check bad = first_some _ _ bad
+  pub fault-records : (k : ℕ) → k ≡ records_fault query plan lent → (k ≡ 0 → ⊥) → fault ≡ k
+  unfolding run_fault records_fault
+  fault-records k e bad =
+      first-left (check_fault query plan ∷ refuse 22 (ltb lent (length (operators_of plan))) ∷ []) _ (λ z. bad (e ∙ z)) ∙ sym e
 
-  module _ (checked : check_fault query plan ≡ 0) (room : length (operators_of plan) ≤ lent) where
-    no-22 : refuse 22 (ltb lent (length (operators_of plan))) ≡ 0
-    no-22 = zero-refuse 22 _ (le-ltb lent (length (operators_of plan)) room)
+  pub fault-early : (k : ℕ) → k ≡ early_fault store query plan lent → (k ≡ 0 → ⊥) → fault ≡ k
+  unfolding run_fault early_fault
+  fault-early k e bad =
+      first-left (check_fault query plan ∷ refuse 22 (ltb lent (length (operators_of plan))) ∷ store_fault store ∷ []) _ (λ z. bad (e ∙ z)) ∙ sym e
 
-    pub fault-store : (store_fault store ≡ 0 → ⊥) → fault ≡ store_fault store
-    unfolding run_fault
-    fault-store bad = first-cons _ _ checked ∙ first-cons _ _ no-22 ∙ first_some _ _ bad
+  module _ (none : records_fault query plan lent ≡ 0) where
+    checked : check_fault query plan ≡ 0
+    checked = records_checked query plan lent none
+
+    room : length (operators_of plan) ≤ lent
+    room = records_room query plan lent none
 
     module _ (good : store_fault store ≡ 0) where
       fault-lengths : fault ≡ room_fault cache (graph_in store) (query_of query) (operators_of plan) scratch (length list)
       unfolding run_fault
-      fault-lengths = first-cons _ _ checked ∙ first-cons _ _ no-22 ∙ first-cons _ _ good
+      fault-lengths = first-cons _ _ checked ∙ first-cons _ _ (no-22 query plan lent none) ∙ first-cons _ _ good
 
       module _ (after : List ℕ) (r : Recorded) (a : Answered cache (graph_in store) (query_of query) (operators_of plan) scratch list after r) where
         same-refusal : r.answer.refusal ≡ fault
