@@ -24,7 +24,8 @@ pub enum Operator {
 pub struct Plan {
     // How many there are.
     pub operators: usize,
-    // What each is: a scan, an extend or a join.
+    // What each is: a scan, an extend or a join. Kinds and operands are two arrays of numbers, as the
+    // definition `plan_struct` reads them off the file; `operator` makes an `Operator` of one of them.
     pub kinds: [u32; Plan::MAX_OPERATORS],
     // The query edge of a scan, the new vertex of an extend, 0 of a join.
     pub operands: [u32; Plan::MAX_OPERATORS],
@@ -33,7 +34,7 @@ pub struct Plan {
 // What Check plan answers: a refusal with 0, or 0 with the operator count.
 #[derive(Drop)]
 pub struct CheckedPlan {
-    // 0 where the plan is accepted.
+    // 0 where the plan is accepted. A number, as the definition `check_answer` gives it.
     pub refusal: u32,
     // How many operators it has.
     pub operators: usize,

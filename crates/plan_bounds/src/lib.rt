@@ -18,7 +18,7 @@ use refusals::Refusal;
 // the largest of them.
 #[derive(Clone, Copy)]
 pub struct BoundsAnswer {
-    // 0 where the plan and the store are accepted.
+    // 0 where the plan and the store are accepted. A number, as the definition `bounds_answer` gives it.
     pub refusal: u32,
     // At least the words of the match list.
     pub list_words: u64,

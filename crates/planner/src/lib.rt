@@ -22,7 +22,7 @@ use refusals::Refusal;
 // What Draw plan answers: a refusal with 0, or 0 with the plan's length.
 #[derive(Drop)]
 pub struct DrawAnswer {
-    // 0 where a plan is drawn.
+    // 0 where a plan is drawn. A number, as the definition `draw_answer` gives it.
     pub refusal: u32,
     // The bytes of the plan.
     pub bytes: usize,

@@ -44,7 +44,8 @@ pub struct Filter {
     pub any_day: bool,
 }
 
-// A query, field by field; every number past the last of a kind is 0.
+// A query, field by field; every number past the last of a kind is 0. The fields are those of the definition
+// `struct_of`, and an array has room for the most that a query may have: nothing here takes memory.
 #[derive(Clone, Copy)]
 pub struct Query {
     // n, how many vertices it has.
@@ -74,7 +75,7 @@ pub struct Query {
 // What Read query answers: a refusal with a query of zeros, or 0 with the query.
 #[derive(Drop)]
 pub struct ReadQuery {
-    // 0 where the file is accepted.
+    // 0 where the file is accepted. A number, as the definition `read_answer` gives it.
     pub refusal: u32,
     // The query, of zeros where it is not.
     pub query: Query,

@@ -22,7 +22,7 @@ use run_spec::RunAnswer;
 // What a page answers: a refusal with 0, or 0 with the page count.
 #[derive(Drop)]
 pub struct PageAnswer {
-    // 0 where the page is written.
+    // 0 where the page is written. A number, as the definition `page_answer` gives it.
     pub refusal: u32,
     // How many pages there are.
     pub pages: usize,

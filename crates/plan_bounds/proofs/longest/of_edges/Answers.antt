@@ -53,19 +53,19 @@ loop-i-preserved c =
     let runs : c.joins.result ≡ between a.v (in_mask a.set) (edge_of a.q i) = c.joins.ensures ∙ ap (between a.v (in_mask a.set)) same in
     elim c.if-joins.branch [
       | then-joins w ↦ rw (w.seen-is) (
-          rw (
-            lengths-more g a.q a.v (in_mask a.set) i (sym runs ∙ w.if-joins.true),
-            ← (w.longest_for.ensures.0 ∙ ap (longest_for g a.v) same),
-          )
-              (w.with-seen.ensures.0 _ c.loop-i.invariant.0),
-          omega (arith, w.with-seen.ensures.1, c.loop-i.invariant.1),
-          omega (arith, w.with-seen.ensures.2, c.loop-i.invariant.2, w.longest_for.ensures.1),
+        rw (
+          lengths-more g a.q a.v (in_mask a.set) i (sym runs ∙ w.if-joins.true),
+          ← (w.longest_for.ensures.0 ∙ ap (longest_for g a.v) same),
         )
+            (w.with-seen.ensures.0 _ c.loop-i.invariant.0),
+        omega (arith, w.with-seen.ensures.1, c.loop-i.invariant.1),
+        omega (arith, w.with-seen.ensures.2, c.loop-i.invariant.2, w.longest_for.ensures.1),
+      )
       | else-joins w ↦ rw (w.seen-is) (
-          rw (lengths-skip g a.q a.v (in_mask a.set) i (sym runs ∙ w.if-joins.false)) c.loop-i.invariant.0,
-          omega arith,
-          omega arith,
-        )
+        rw (lengths-skip g a.q a.v (in_mask a.set) i (sym runs ∙ w.if-joins.false)) c.loop-i.invariant.0,
+        omega arith,
+        omega arith,
+      )
     ]
 
 pub returns : goal.returns
