@@ -14,7 +14,8 @@ mod fill;
 // What Load answers: a refusal with zeros, or 0 with the counts.
 #[derive(Clone, Copy)]
 pub struct Loaded {
-    // 0 where the graph is in the store. A number, as the definitions `load_answer` and `apply_answer` give it.
+    // 0 where the graph is in the store. A number, as the definitions `load_answer` and `apply_answer` give
+    // it.
     pub refusal: u32,
     // N.
     pub vertices: usize,
