@@ -3,7 +3,7 @@ use mathlib.Core.Path.{◌≡◌, ap, ◌∙◌}
 use Prim.Native.Nat.{ℕ, ◌+◌, ◌-◌, ◌*◌, ◌%◌, ◌^◌, ◌≤◌, ◌<◌}
 use native.Mathlib.Nat.{lt_of_lt_of_le, mod-lt, one-mul}
 use native.Mathlib.Omega.{arith}
-use lib.Bits.{bit_and, bit_or, and_mask, or_shifted}
+use lib.Bits.{bit_and, and_mask}
 use lib.Pow.{pow_pos, pow_mono, shl_exact}
 
 -- A mask of w ones, made in a 64-bit word, keeps the last w bits.
@@ -14,10 +14,6 @@ masked n w h =
 -- The last w bits of a number fit k bits.
 pub low_fits : (n w k : ℕ) → w ≤ k → n % 2 ^ w < 2 ^ k
 low_fits n w k h = lt_of_lt_of_le (mod-lt n (pow_pos w)) (pow_mono h)
-
--- A word shifted by 8 takes one byte more.
-pub byte-joined : (n b : ℕ) → n < 2 ^ 56 → b < 256 → bit_or (n * 2 ^ 8 % 2 ^ 64) b ≡ n * 256 + b
-byte-joined n b hn hb = ap (λ (m : ℕ). bit_or m b) (shl_exact 56 8 64 hn (omega arith)) ∙ or_shifted n 8 b hb
 
 -- A number of w bits, shifted by k in a 64-bit word, loses none.
 pub shifted : (x w k : ℕ) → x < 2 ^ w → w + k ≤ 64 → x * 2 ^ k % 2 ^ 64 ≡ x * 2 ^ k

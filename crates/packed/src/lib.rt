@@ -22,7 +22,7 @@ fn byte(s: &[u8], i: usize) -> u8
 fn join(a: u8, b: u8, c: u8, d: u8) -> u64
     ensures { result ≡ ((a * 256 + b) * 256 + c) * 256 + d }
 {
-    (((a as u64) << 8 | b as u64) << 8 | c as u64) << 8 | d as u64
+    u32::from_be_bytes([a, b, c, d]) as u64
 }
 
 // The 32 bits from byte `i` on, where there are as many.

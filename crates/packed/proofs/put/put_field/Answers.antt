@@ -8,11 +8,6 @@ use Rattle.packed.specs.Field.{field_at}
 use Rattle.packed.proofs.Laws.{field_lt, field_cut}
 use Rattle.packed.proofs.Shifts.{shifted}
 use Rattle.packed.proofs.Putting.{put_is, held-part, put-fits}
-use Rattle.packed.proofs.put.put_field.Reads as reads
-use Rattle.packed.proofs.put.put_field.Lts as lts
-use Rattle.packed.proofs.cut.Reads as cut-reads
-use Rattle.packed.proofs.put.put_word.Reads as put-word-reads
-use Rattle.packed.proofs.word.Reads as word-reads
 use Rattle.packed.proofs.put.put_field.Goals as goal
 
 pub overflow_sub-w : goal.overflow_sub-w
