@@ -67,8 +67,8 @@ fn check_length(file: &[u8]) -> Result<(), Refusal>
     Ok(())
 }
 
-// Refuses an edge that has a vertex outside 0 to n - 1 or label 0, or does not ascend. `least` is one more than
-// the key of the change before.
+// Refuses an edge that has a vertex outside 0 to n - 1 or label 0, or does not ascend. `least` is one more
+// than the key of the change before.
 fn check_edges(file: &[u8], n: usize, k: usize) -> Result<(), Refusal>
     requires { Sized file.now × (k ≡ change_count file.now) }
     ensures { fault_of result ≡ refuse 27 (not (all (change_fits n file.now) (range k))) }

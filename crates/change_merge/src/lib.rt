@@ -45,8 +45,8 @@ fn vertex_at(file: &[u8], keys: &[u64], j: usize) -> usize
     (side_key(file, keys, j) / Graph::ENTRY_END as u64) as usize
 }
 
-// The entry in the j-th key where it is one of vertex v, else one above all entries. No `Option`: so the merge
-// asks nothing but which of two words is smaller, at the end of either list too.
+// The entry in the j-th key where it is one of vertex v, else one above all entries. No `Option`: so the
+// merge asks nothing but which of two words is smaller, at the end of either list too.
 fn next(file: &[u8], keys: &[u64], k: usize, v: usize, j: usize) -> u32
     requires { Keyed file.now keys.now × (k ≡ change_count file.now) × (j ≤ k) }
     ensures { result ≡ next_entry (side_keys file.now keys.now) v j }

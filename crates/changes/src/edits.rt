@@ -35,8 +35,8 @@ fn stands(list: &[u32], x: u32, place: usize) -> bool
     place < list.len() && list[place] == x
 }
 
-// Refuses a change that adds a present edge or takes an absent one. The forward side of the old store begins at
-// a word.
+// Refuses a change that adds a present edge or takes an absent one. The forward side of the old store
+// begins at a word.
 pub fn check_edits(old: &[u32], n: usize, at: usize, file: &[u8], k: usize) -> Result<(), Refusal>
     requires { Editable old.now n at file.now k }
     ensures { fault_of result ≡ edit_fault (graph_in old.now) (changes_of file.now) }

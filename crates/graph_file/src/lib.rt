@@ -130,8 +130,8 @@ fn edge_key(s: u32, e: u32) -> u64
     s as u64 * Graph::ENTRY_END as u64 + e as u64
 }
 
-// Refuses the first edge at fault. `least` is one more than the key of the edge before. The tests stand in the
-// loop, so that each is a branch that is never taken.
+// Refuses the first edge at fault. `least` is one more than the key of the edge before. The tests stand in
+// the loop, so that each is a branch that is never taken.
 fn check_edges(file: GraphFile) -> Result<(), Refusal>
     ensures { fault_of result ≡ graph_edges_fault file.entry.bytes.now }
 {

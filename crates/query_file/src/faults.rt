@@ -130,8 +130,8 @@ fn check_pair(file: &[u8], at: usize, n: usize, least: u32) -> Result<(), Refusa
     Ok(())
 }
 
-// Refuses the first pair at fault. `least` is one more than the last pair's key. Edges have a loop of their own:
-// one loop for both would be lent the place, the test and the key as three closures.
+// Refuses the first pair at fault. `least` is one more than the last pair's key. Edges have a loop of
+// their own: one loop for both would be lent the place, the test and the key as three closures.
 fn check_pairs(file: QueryFile) -> Result<(), Refusal>
     requires { pair_start file.bytes.now (pair_count file.bytes.now) ≤ bits_in file.bytes.now }
     ensures { fault_of result ≡ query_pairs_fault file.entry.bytes.now

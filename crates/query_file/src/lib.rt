@@ -82,8 +82,8 @@ impl<'a> QueryFile<'a> {
         field(self.bytes, self.edge_start(self.edges), 4) as usize
     }
 
-    // A field of each of `count` parts of `step` bits, of which the first begins at bit position `at`: `width`
-    // bits, `offset` bits past the part's start; 0 past the last part.
+    // A field of each of `count` parts of `step` bits, of which the first begins at bit position `at`:
+    // `width` bits, `offset` bits past the part's start; 0 past the last part.
     fn fields<const N: usize>(
         self,
         at: usize,
