@@ -1,23 +1,16 @@
 // Count over marked words, with what it leaves there judged, against the runs of the plan.
 use count::{CountAnswer, count};
-use judge_inputs::bits::*;
 use judge_matcher::lent::*;
 use judge_matcher::slices::*;
-use judge_matcher::tally::{CLEARED, SCRATCH, Tally, UNTOUCHED, judge, judge_refusal};
+use judge_matcher::tally::{CLEARED, SCRATCH, Tally, UNTOUCHED};
 use run::RunAnswer;
 
-// The one call of Count.
-fn call_count(store: &[u32], files: &[u8], w: Lent, scratch: &mut [u32]) -> CountAnswer {
-    let query = part(files, 0, w.query);
-    let plan = part(files, PLAN, w.plan);
-    count(store, query, plan, w.cache, scratch)
-}
-
 // A count that is lent words of the store and the scratch.
-pub fn lend(store: &[u32], files: &[u8], w: Lent, scratch: &mut [u32]) -> CountAnswer {
+pub fn lend(store: &Store, files: &Files, w: Lent, scratch: &mut List) -> CountAnswer {
     let used = first(store, w.store);
-    let words = least(w.scratch, scratch.len());
-    call_count(used, files, w, &mut scratch[0..words])
+    let query = first(files, w.query);
+    let plan = part(files, PLAN, w.plan);
+    count(used, query, plan, w.cache, first_mut(scratch, w.scratch))
 }
 
 // A count over marked words. It clears the scratch, and touches nothing past what it is lent; refused, it
@@ -30,10 +23,10 @@ fn marked_count(
 ) -> CountAnswer {
     let mut scratch = [MARK; LIST_WORDS];
     let c = lend(store, files, w, &mut scratch);
-    let zeros = (c.rows == 0) & (c.cost == 0) & (c.build == 0) & (c.probe == 0) & (c.need == 0);
-    judge(tally, CLEARED, all_are(&scratch, 0, w.scratch, 0));
-    judge(tally, UNTOUCHED, is_marked(&scratch, w.scratch, w.scratch));
-    judge_refusal(tally, c.refusal, zeros);
+    let zeros = c.rows == 0 && c.cost == 0 && c.build == 0 && c.probe == 0 && c.need == 0;
+    tally.judge(CLEARED, all_are(&scratch, 0, w.scratch, 0));
+    tally.judge(UNTOUCHED, is_marked(&scratch, w.scratch, w.scratch));
+    tally.judge_refusal(c.refusal, zeros);
     c
 }
 
@@ -50,14 +43,10 @@ pub fn judge_count(
     let mut w = with;
     w.scratch = need;
     let c = marked_count(store, files, w, tally);
-    let counts = (c.rows == a.rows) & (c.build == a.build) & (c.probe == a.probe);
-    let cost = (c.cost <= a.cost) & (w.cache | (c.cost == a.cost));
-    judge(
-        tally,
-        SCRATCH,
-        (c.refusal == 0) & counts & cost & (c.need == need),
-    );
-    w.scratch = sub(need, 1);
+    let counts = c.rows == a.rows && c.build == a.build && c.probe == a.probe;
+    let cost = c.cost <= a.cost && (w.cache || c.cost == a.cost);
+    tally.judge(SCRATCH, c.refusal == 0 && counts && cost && c.need == need);
+    w.scratch = need.wrapping_sub(1);
     let d = marked_count(store, files, w, tally);
-    judge(tally, SCRATCH, d.refusal == 20);
+    tally.judge(SCRATCH, d.refusal == 20);
 }

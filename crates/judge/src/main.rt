@@ -12,7 +12,7 @@ mod runs;
 mod stream;
 mod worked;
 
-use judge_matcher::tally;
+use judge_inputs::random::Random;
 use judge_matcher::tally::Tally;
 use std::io;
 
@@ -21,11 +21,11 @@ const GRAPHS: usize = 1800;
 const SEED: u64 = 88172645463325252;
 
 fn main(rt: HostRuntime) -> io::Result<()> {
-    let mut seed = SEED;
+    let mut random = Random::new(SEED);
     let mut tally = Tally::new(&rt);
-    rt.write_all(b"judge\n")?;
-    worked::judge_cases(&mut seed, &mut tally);
-    stream::judge_graphs(GRAPHS, &mut seed, &mut tally);
-    tally::print(&tally)?;
+    println!(rt; "judge")?;
+    worked::judge_cases(&mut random, &mut tally);
+    stream::judge_graphs(GRAPHS, &mut random, &mut tally);
+    tally.print()?;
     tally.written
 }

@@ -1,6 +1,5 @@
 // The records of a run: marked before, judged afterwards.
-use judge_matcher::tally;
-use judge_matcher::tally::Tally;
+use judge_matcher::tally::{RECORDS, Tally, UNTOUCHED};
 use lending::{Filled, Lending};
 use plan::Plan;
 use run::RunAnswer;
@@ -21,41 +20,29 @@ pub fn marked(lent: usize) -> Lending {
     }
 }
 
-// The records from an index on are as before.
-fn are_marked(records: [Record; COUNT], from: usize) -> bool {
-    for i in 0..COUNT {
-        let r = records[i];
-        if (from <= i) & ((r.rows != MARK) | (r.cost != MARK)) {
-            return false;
-        }
-    }
-    true
-}
-
-// The costs of so many records add up to the answer's, and the last one's rows are the answer's.
-fn adds_up(records: [Record; COUNT], count: usize, a: RunAnswer) -> bool {
-    let mut cost = 0;
+// The costs of the records add up to the answer's, and the last one's rows are the answer's.
+fn adds_up(records: &[Record], a: RunAnswer) -> bool {
+    let mut cost = 0u64;
     let mut rows = 0;
-    for i in 0..COUNT {
-        let r = records[i];
-        if i < count {
-            cost = std::num::wrapping_add_u64(cost, r.cost);
-            rows = r.rows;
-        }
+    for r in records {
+        cost = cost.wrapping_add(r.cost);
+        rows = r.rows;
     }
-    (cost == a.cost) & (rows == a.rows as u64)
+    cost == a.cost && rows == a.rows as u64
 }
 
 // Refused, a run answers zeros and touches no record; accepted, the records of its operators add up, and no
 // other is touched.
-pub fn judge(filled: Filled, count: usize, tally: &mut Tally<impl Print>) {
+pub fn judge(filled: &Filled, count: usize, tally: &mut Tally<impl Print>) {
     let a = filled.answer;
-    let records = filled.records;
-    let zeros = (a.rows == 0) & (a.cost == 0) & (a.build == 0) & (a.probe == 0);
-    let made = if a.refusal == 0 { count } else { 0 };
-    tally::judge(tally, tally::UNTOUCHED, are_marked(records, made));
+    let made = if a.refusal == 0 { count.min(COUNT) } else { 0 };
+    let untouched = filled.records[made..]
+        .iter()
+        .all(|r| r.rows == MARK && r.cost == MARK);
+    tally.judge(UNTOUCHED, untouched);
     if a.refusal == 0 {
-        tally::judge(tally, tally::RECORDS, adds_up(records, count, a));
+        tally.judge(RECORDS, adds_up(&filled.records[..made], a));
     }
-    tally::judge_refusal(tally, a.refusal, zeros);
+    let zeros = a.rows == 0 && a.cost == 0 && a.build == 0 && a.probe == 0;
+    tally.judge_refusal(a.refusal, zeros);
 }

@@ -4,24 +4,22 @@ use judge_matcher::files::operators;
 use judge_matcher::lent::*;
 use judge_matcher::slices::*;
 use judge_matcher::tally::*;
-use lending::Filled;
+use lending::{Filled, run_lending};
 use run::RunAnswer;
 
-// The one call of Run.
-fn call_run(store: &[u32], files: &[u8], w: Lent, scratch: &mut [u32], list: &mut [u32]) -> Filled {
-    let query = part(files, 0, w.query);
-    let plan = part(files, PLAN, w.plan);
-    let cache = w.cache;
-    let lent = recorded::marked(w.records);
-    lending::run_lending(store, query, plan, cache, scratch, list, lent)
-}
-
 // A run that is lent words of the store, the scratch and the list.
-pub fn lend(store: &[u32], files: &[u8], w: Lent, scratch: &mut [u32], list: &mut [u32]) -> Filled {
-    let used = first(store, w.store);
-    let words = least(w.scratch, scratch.len());
-    let room = least(w.list, list.len());
-    call_run(used, files, w, &mut scratch[0..words], &mut list[0..room])
+pub fn lend(store: &Store, files: &Files, w: Lent, scratch: &mut List, list: &mut List) -> Filled {
+    let query = first(files, w.query);
+    let plan = part(files, PLAN, w.plan);
+    run_lending(
+        first(store, w.store),
+        query,
+        plan,
+        w.cache,
+        first_mut(scratch, w.scratch),
+        first_mut(list, w.list),
+        recorded::marked(w.records),
+    )
 }
 
 // A run over marked words of scratch and list and marked records. It clears the scratch, and touches no word
@@ -37,9 +35,9 @@ pub fn run(
     let filled = lend(store, files, w, &mut scratch, list);
     let a = filled.answer;
     let rows = row_words(a.rows, w.width);
-    let untouched = is_marked(&scratch, w.scratch, w.scratch) & is_marked(list, rows, w.list);
-    recorded::judge(filled, operators(files), tally);
-    judge(tally, CLEARED, all_are(&scratch, 0, w.scratch, 0));
-    judge(tally, UNTOUCHED, untouched);
+    let untouched = is_marked(&scratch, w.scratch, w.scratch) && is_marked(list, rows, w.list);
+    recorded::judge(&filled, operators(files), tally);
+    tally.judge(CLEARED, all_are(&scratch, 0, w.scratch, 0));
+    tally.judge(UNTOUCHED, untouched);
     a
 }

@@ -2,10 +2,9 @@
 use crate::model::Bounds;
 use crate::numbers::TOP;
 use crate::tallied::*;
-use judge_inputs::bits::*;
 use judge_matcher::lent::{Files, PLAN, Store};
 use judge_matcher::slices::*;
-use judge_matcher::tally::{Tally, count, judge, judge_refusal};
+use judge_matcher::tally::Tally;
 use plan_bounds::BoundsAnswer;
 
 // The words of the store and the bytes of the two files that are lent.
@@ -16,31 +15,29 @@ pub struct Lent {
     pub plan: usize,
 }
 
-// The one call of Bounds.
-fn call(store: &[u32], files: &[u8], w: Lent) -> BoundsAnswer {
-    let used = first(store, w.store);
-    plan_bounds::bounds(used, part(files, 0, w.query), part(files, PLAN, w.plan))
-}
-
 // Bounds; refused, they are zeros.
 fn bounds(store: &Store, files: &Files, w: Lent, tally: &mut Tally<impl Print>) -> BoundsAnswer {
-    let a = call(store, files, w);
-    let words = (a.list_words == 0) & (a.scratch_words == 0);
-    judge_refusal(tally, a.refusal, words & (a.cost == 0) & (a.largest == 0));
+    let used = first(store, w.store);
+    let a = plan_bounds::bounds(used, first(files, w.query), part(files, PLAN, w.plan));
+    let zeros = a.list_words == 0 && a.scratch_words == 0 && a.cost == 0 && a.largest == 0;
+    tally.judge_refusal(a.refusal, zeros);
     a
 }
 
 fn are(a: BoundsAnswer, m: Bounds) -> bool {
-    let words = (a.list_words == m.list_words) & (a.scratch_words == m.scratch_words);
-    (a.refusal == 0) & words & (a.cost == m.cost) & (a.largest == m.largest)
+    a.refusal == 0
+        && a.list_words == m.list_words
+        && a.scratch_words == m.scratch_words
+        && a.cost == m.cost
+        && a.largest == m.largest
 }
 
 // Counts the numbers that are too large for 64 bits.
 fn count_passed(a: BoundsAnswer, tally: &mut Tally<impl Print>) {
-    count(tally, PASSED, (a.list_words == TOP) as u64);
-    count(tally, PASSED + 1, (a.scratch_words == TOP) as u64);
-    count(tally, PASSED + 2, (a.cost == TOP) as u64);
-    count(tally, PASSED + 3, (a.largest == TOP) as u64);
+    let numbers = [a.list_words, a.scratch_words, a.cost, a.largest];
+    for (i, number) in numbers.iter().enumerate() {
+        tally.count(PASSED + i, (*number == TOP) as u64);
+    }
 }
 
 // The bounds are the model's, whatever lies past the words of the store.
@@ -52,11 +49,11 @@ pub fn judge_exact(
     tally: &mut Tally<impl Print>,
 ) {
     let mut more = w;
-    more.store = add(w.store, 5);
+    more.store = w.store.wrapping_add(5);
     let a = bounds(store, files, w, tally);
     let b = bounds(store, files, more, tally);
-    judge(tally, BOUNDS, are(a, m));
-    judge(tally, BOUNDS, are(b, m));
+    tally.judge(BOUNDS, are(a, m));
+    tally.judge(BOUNDS, are(b, m));
     count_passed(a, tally);
 }
 
@@ -69,28 +66,31 @@ fn judge_refused(
     tally: &mut Tally<impl Print>,
 ) {
     let a = bounds(store, files, w, tally);
-    judge(tally, ORDER, a.refusal == refusal);
+    tally.judge(ORDER, a.refusal == refusal);
 }
 
 // A store without its last word, a plan of a byte less or more, a query of a byte less or more: the query's
 // refusals come first, the store's last.
 pub fn judge_damaged(store: &Store, files: &Files, with: Lent, tally: &mut Tally<impl Print>) {
     let mut w = with;
-    w.store = sub(with.store, 1);
+    w.store = with.store.wrapping_sub(1);
     judge_refused(store, files, w, 19, tally);
-    w.plan = sub(with.plan, 1);
+    w.plan = with.plan.wrapping_sub(1);
     judge_refused(store, files, w, 12, tally);
-    w.plan = add(with.plan, 1);
+    w.plan = with.plan.wrapping_add(1);
     judge_refused(store, files, w, 13, tally);
-    w.query = sub(with.query, 1);
+    w.query = with.query.wrapping_sub(1);
     judge_refused(store, files, w, 6, tally);
-    w.query = add(with.query, 1);
+    w.query = with.query.wrapping_add(1);
     judge_refused(store, files, w, 7, tally);
 }
 
 fn are_same(a: BoundsAnswer, b: BoundsAnswer) -> bool {
-    let words = (a.list_words == b.list_words) & (a.scratch_words == b.scratch_words);
-    (a.refusal == b.refusal) & words & (a.cost == b.cost) & (a.largest == b.largest)
+    a.refusal == b.refusal
+        && a.list_words == b.list_words
+        && a.scratch_words == b.scratch_words
+        && a.cost == b.cost
+        && a.largest == b.largest
 }
 
 // The same over each of two stores.
@@ -106,7 +106,7 @@ fn judge_same(
     v.store = words;
     let a = bounds(one, files, w, tally);
     let b = bounds(two, files, v, tally);
-    judge(tally, OTHERS, are_same(a, b));
+    tally.judge(OTHERS, are_same(a, b));
 }
 
 // The second store is of so many words; with a plan that fits, and with one of a byte less.
@@ -120,6 +120,6 @@ pub fn judge_stores(
 ) {
     let mut w = with;
     judge_same(one, two, files, w, words, tally);
-    w.plan = sub(with.plan, 1);
+    w.plan = with.plan.wrapping_sub(1);
     judge_same(one, two, files, w, words, tally);
 }

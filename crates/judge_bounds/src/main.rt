@@ -9,6 +9,7 @@ mod numbers;
 mod stream;
 mod tallied;
 
+use judge_inputs::random::Random;
 use judge_matcher::tally::Tally;
 use std::io;
 
@@ -19,11 +20,11 @@ const DENSE: usize = 60;
 const SEED: u64 = 88172645463325252;
 
 fn main(rt: HostRuntime) -> io::Result<()> {
-    let mut seed = SEED;
+    let mut random = Random::new(SEED);
     let mut tally = Tally::new(&rt);
-    rt.write_all(b"judge_bounds\n")?;
-    stream::judge_graphs(GRAPHS, &mut seed, &mut tally);
-    stream::judge_dense(DENSE, &mut seed, &mut tally);
+    println!(rt; "judge_bounds")?;
+    stream::judge_graphs(GRAPHS, &mut random, &mut tally);
+    stream::judge_dense(DENSE, &mut random, &mut tally);
     tallied::print(&tally)?;
     tally.written
 }

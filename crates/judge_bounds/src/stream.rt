@@ -1,26 +1,20 @@
 // The stream of random cases: graphs, queries of each, and plans of each query; and queries of many joins
 // over dense graphs.
 use crate::calls::*;
-use crate::model;
 use crate::model::{Bounds, Measures};
 use crate::tallied::WIDE;
-use judge_inputs::bits::*;
+use judge_inputs::graphs;
 use judge_inputs::graphs::Graph;
-use judge_inputs::queries::Query;
-use judge_inputs::random::*;
-use judge_inputs::{graphs, queries};
+use judge_inputs::queries::{Edge, Query};
+use judge_inputs::random::Random;
 use judge_matcher::files::write_plan;
-use judge_matcher::lent::{FILE_BYTES, Files, LIST_WORDS, PLAN, Store, store_words};
+use judge_matcher::lent::{FILE_BYTES, Files, LIST_WORDS, PLAN, Store, graph_words};
 use judge_matcher::slices::part;
 use judge_matcher::stores::load_file;
-use judge_matcher::tally::{GRAPHS, QUERIES, Tally, count};
+use judge_matcher::tally::{GRAPHS, QUERIES, Tally};
 
-// What the bounds of the plan are whose file has so many bytes.
-fn expected(q: &Query, m: &Measures, files: &Files, plan: usize) -> Bounds {
-    model::bounds_of(q, m, part(files, PLAN, plan))
-}
-
-// A random plan of a query whose file stands in zeros.
+// A random plan of a query whose file stands in zeros; over a second store too, if there is one, of so many
+// words.
 fn judge_plan(
     q: &Query,
     m: &Measures,
@@ -28,39 +22,36 @@ fn judge_plan(
     two: &Store,
     files: &Files,
     with: Lent,
-    others: usize,
-    seed: &mut u64,
+    others: Option<usize>,
+    random: &mut Random,
     tally: &mut Tally<impl Print>,
 ) {
     let mut own = *files;
     let mut w = with;
-    w.plan = write_plan(q, &mut own, seed);
-    let b = expected(q, m, &own, w.plan);
-    judge_exact(one, &own, w, b, tally);
+    w.plan = write_plan(q, &mut own, random);
+    let expected = Bounds::of(q, m, part(&own, PLAN, w.plan));
+    judge_exact(one, &own, w, expected, tally);
     judge_damaged(one, &own, w, tally);
-    if 0 < others {
-        judge_stores(one, two, &own, w, others, tally);
+    if let Some(words) = others {
+        judge_stores(one, two, &own, w, words, tally);
     }
 }
 
-// A second store with other edges of labels that a query does not name; answers its words, or 0 where the
+// A second store with other edges of labels that a query does not name; answers its words, or None where the
 // query names any label.
 fn load_others(
     g: &Graph,
     q: &Query,
     two: &mut Store,
-    seed: &mut u64,
+    random: &mut Random,
     tally: &mut Tally<impl Print>,
-) -> usize {
-    let labels = queries::named(q);
-    if labels % 2 == 1 {
-        return 0;
-    }
+) -> Option<usize> {
+    let labels = q.named_labels()?;
     let mut h = *g;
-    graphs::turn_others(&mut h, labels / 2, seed);
-    let words = store_words(h[graphs::VERTICES], h[graphs::EDGES]);
+    h.turn_others(labels, random);
+    let words = graph_words(&h);
     load_file(&h, two, words, tally);
-    words
+    Some(words)
 }
 
 // So many random plans of a query.
@@ -70,104 +61,103 @@ fn judge_query(
     m: &Measures,
     one: &Store,
     plans: usize,
-    seed: &mut u64,
+    random: &mut Random,
     tally: &mut Tally<impl Print>,
 ) {
     let mut files = [0u8; FILE_BYTES];
     let mut two = [0u32; LIST_WORDS];
-    let query = queries::write(q, &mut files);
-    let store = store_words(g[graphs::VERTICES], g[graphs::EDGES]);
-    let others = load_others(g, q, &mut two, seed, tally);
+    let query = q.write(&mut files);
+    let others = load_others(g, q, &mut two, random, tally);
     let with = Lent {
-        store,
+        store: graph_words(g),
         query,
         plan: 0,
     };
-    count(tally, QUERIES, 1);
+    tally.count(QUERIES, 1);
     for _ in 0..plans {
-        judge_plan(q, m, one, &two, &files, with, others, seed, tally);
+        judge_plan(q, m, one, &two, &files, with, others, random, tally);
     }
 }
 
 fn load(g: &Graph, store: &mut Store, tally: &mut Tally<impl Print>) {
-    let words = store_words(g[graphs::VERTICES], g[graphs::EDGES]);
-    load_file(g, store, words, tally);
-    count(tally, GRAPHS, 1);
+    load_file(g, store, graph_words(g), tally);
+    tally.count(GRAPHS, 1);
 }
 
 // Four random queries of a random graph.
-fn random_graph(seed: &mut u64, tally: &mut Tally<impl Print>) {
-    let mut g = [0usize; graphs::WORDS];
+fn random_graph(random: &mut Random, tally: &mut Tally<impl Print>) {
     let mut store = [0u32; LIST_WORDS];
-    let mut q = [0usize; queries::WORDS];
-    graphs::random(&mut g, seed);
+    let g = Graph::random(13, random);
     load(&g, &mut store, tally);
-    let m = model::measures(&g);
+    let m = Measures::of(&g);
     for _ in 0..4usize {
-        queries::random(&mut q, &g, seed);
-        judge_query(&g, &mut q, &m, &store, 2, seed, tally);
+        let mut q = Query::random(&g, random);
+        judge_query(&g, &mut q, &m, &store, 2, random, tally);
     }
 }
 
 // An edge between a vertex and one before it, in either direction, mostly of any label.
-fn random_edge(v: usize, seed: &mut u64) -> usize {
-    let u = below(seed, v) % 8;
-    let l = below(seed, 8) % 8;
-    let label = [0, 0, 0, 0, 0, 1, 2, 3][l] % 4;
-    if chance(seed, 50) {
-        return u * 32 + v % 8 * 4 + label;
+fn random_edge(v: usize, random: &mut Random) -> Edge {
+    let u = random.below(v);
+    let label = random.pick([0, 0, 0, 0, 0, 1, 2, 3]);
+    if random.chance(50) {
+        Edge {
+            source: u,
+            target: v,
+            label,
+        }
+    } else {
+        Edge {
+            source: v,
+            target: u,
+            label,
+        }
     }
-    v % 8 * 32 + u * 4 + label
 }
 
 // A tree of eight vertices: seven scans, joined, have it all.
-fn random_tree(q: &mut Query, seed: &mut u64) {
-    *q = [0; queries::WORDS];
-    q[queries::VERTICES] = 8;
+fn random_tree(random: &mut Random) -> Query {
+    let mut q = Query::of(8);
     for v in 1..8usize {
-        queries::put_edge(q, random_edge(v, seed));
+        q.put_edge(random_edge(v, random));
     }
+    q
 }
 
-// A graph of fourteen places and all edge labels with most of its edges, drawn until its file has room;
-// answers whether it has.
-fn draw_dense(g: &mut Graph, seed: &mut u64) -> bool {
+// A graph of fourteen places and all edge labels with most of its edges, drawn until its file has room.
+fn draw_dense(random: &mut Random) -> Option<Graph> {
     for _ in 0..16usize {
-        let percent = add(80, below(seed, 21));
-        graphs::draw(g, 14, 4, percent, seed);
-        let bytes = g[graphs::VERTICES] % 65536 * 4 + g[graphs::EDGES] % 65536 * 5 + 5;
-        if bytes <= graphs::FILE_BYTES {
-            return true;
+        let percent = random.below(21).wrapping_add(80);
+        let g = Graph::draw(14, 4, percent, random);
+        if g.vertices % 65536 * 4 + g.edges % 65536 * 5 + 5 <= graphs::FILE_BYTES {
+            return Some(g);
         }
     }
-    false
+    None
 }
 
 // Trees over a dense graph.
-fn dense_graph(seed: &mut u64, tally: &mut Tally<impl Print>) {
-    let mut g = [0usize; graphs::WORDS];
+fn dense_graph(random: &mut Random, tally: &mut Tally<impl Print>) {
     let mut store = [0u32; LIST_WORDS];
-    let mut q = [0usize; queries::WORDS];
-    if !draw_dense(&mut g, seed) {
-        return;
-    }
-    load(&g, &mut store, tally);
-    let m = model::measures(&g);
-    for _ in 0..4usize {
-        random_tree(&mut q, seed);
-        judge_query(&g, &mut q, &m, &store, 8, seed, tally);
-        count(tally, WIDE, 8);
+    if let Some(g) = draw_dense(random) {
+        load(&g, &mut store, tally);
+        let m = Measures::of(&g);
+        for _ in 0..4usize {
+            let mut q = random_tree(random);
+            judge_query(&g, &mut q, &m, &store, 8, random, tally);
+            tally.count(WIDE, 8);
+        }
     }
 }
 
-pub fn judge_graphs(graphs: usize, seed: &mut u64, tally: &mut Tally<impl Print>) {
+pub fn judge_graphs(graphs: usize, random: &mut Random, tally: &mut Tally<impl Print>) {
     for _ in 0..graphs {
-        random_graph(seed, tally);
+        random_graph(random, tally);
     }
 }
 
-pub fn judge_dense(graphs: usize, seed: &mut u64, tally: &mut Tally<impl Print>) {
+pub fn judge_dense(graphs: usize, random: &mut Random, tally: &mut Tally<impl Print>) {
     for _ in 0..graphs {
-        dense_graph(seed, tally);
+        dense_graph(random, tally);
     }
 }

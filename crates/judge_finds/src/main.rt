@@ -6,6 +6,7 @@ mod finds;
 mod stream;
 mod tallied;
 
+use judge_inputs::random::Random;
 use judge_matcher::tally::Tally;
 use std::io;
 
@@ -14,10 +15,10 @@ const GRAPHS: usize = 600;
 const SEED: u64 = 88172645463325252;
 
 fn main(rt: HostRuntime) -> io::Result<()> {
-    let mut seed = SEED;
+    let mut random = Random::new(SEED);
     let mut tally = Tally::new(&rt);
-    rt.write_all(b"judge_finds\n")?;
-    stream::judge_graphs(GRAPHS, &mut seed, &mut tally);
+    println!(rt; "judge_finds")?;
+    stream::judge_graphs(GRAPHS, &mut random, &mut tally);
     tallied::print_compared(&tally)?;
     tallied::print_answers(&tally)?;
     tally.written

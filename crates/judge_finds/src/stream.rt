@@ -1,7 +1,8 @@
 // The stream of random cases: graphs, and queries of each.
 use crate::finds::{COUNT, judge_find};
 use judge_inputs::graphs::Graph;
-use judge_inputs::{graphs, queries};
+use judge_inputs::queries::Query;
+use judge_inputs::random::Random;
 use judge_matcher::lent::*;
 use judge_matcher::stores::load_file;
 use judge_matcher::tally::*;
@@ -11,14 +12,13 @@ fn random_query(
     g: &Graph,
     store: &Store,
     words: usize,
-    seed: &mut u64,
+    random: &mut Random,
     tally: &mut Tally<impl Print>,
 ) {
-    let mut q = [0usize; queries::WORDS];
     let mut files = [0u8; FILE_BYTES];
-    queries::random(&mut q, g, seed);
-    let bytes = queries::write(&mut q, &mut files);
-    count(tally, QUERIES, 1);
+    let mut q = Query::random(g, random);
+    let bytes = q.write(&mut files);
+    tally.count(QUERIES, 1);
     let with = Lent {
         store: words,
         query: bytes,
@@ -27,36 +27,24 @@ fn random_query(
         scratch: MAX_WORDS,
         list: MAX_WORDS,
         records: COUNT,
-        width: q[queries::VERTICES],
+        width: q.vertices,
     };
-    judge_find(store, &files, with, seed, tally);
+    judge_find(store, &files, with, random, tally);
 }
 
-// Four random queries of a loaded graph.
-fn random_queries(
-    g: &Graph,
-    store: &Store,
-    words: usize,
-    seed: &mut u64,
-    tally: &mut Tally<impl Print>,
-) {
+// A random graph, and four queries of it.
+fn random_graph(random: &mut Random, tally: &mut Tally<impl Print>) {
+    let mut store = [0u32; LIST_WORDS];
+    let g = Graph::random(13, random);
+    let words = graph_words(&g);
+    load_file(&g, &mut store, words, tally);
     for _ in 0..4usize {
-        random_query(g, store, words, seed, tally);
+        random_query(&g, &store, words, random, tally);
     }
 }
 
-// A random graph, and its queries.
-fn random_graph(seed: &mut u64, tally: &mut Tally<impl Print>) {
-    let mut g = [0usize; graphs::WORDS];
-    let mut store = [0u32; LIST_WORDS];
-    graphs::random(&mut g, seed);
-    let words = store_words(g[graphs::VERTICES], g[graphs::EDGES]);
-    load_file(&g, &mut store, words, tally);
-    random_queries(&g, &store, words, seed, tally);
-}
-
-pub fn judge_graphs(graphs: usize, seed: &mut u64, tally: &mut Tally<impl Print>) {
+pub fn judge_graphs(graphs: usize, random: &mut Random, tally: &mut Tally<impl Print>) {
     for _ in 0..graphs {
-        random_graph(seed, tally);
+        random_graph(random, tally);
     }
 }

@@ -13,37 +13,38 @@ const GIVEN: usize = 32;
 
 pub fn count_given(refusal: u32, tally: &mut Tally<impl Print>) {
     if refusal == 0 {
-        count(tally, ACCEPTED, 1);
-        return;
+        tally.count(ACCEPTED, 1);
+    } else {
+        tally.count(GIVEN + refusal as usize % 32, 1);
     }
-    count(tally, GIVEN + refusal as usize % 32, 1);
 }
 
-fn print_count(out: &impl Print, value: u64) -> io::Result<()> {
-    out.write_all(b" ")?;
-    out.print(value)
+fn print_words<const N: usize>(tally: &Tally<impl Print>, words: [usize; N]) -> io::Result<()> {
+    for at in words {
+        let count = tally.words[at % WORDS];
+        print!(tally.out; " {count}")?;
+    }
+    println!(tally.out; "")
 }
 
 pub fn print_compared(tally: &Tally<impl Print>) -> io::Result<()> {
-    tally.out.write_all(
-        b"compared: Find with Draw plan and then Run, words untouched by Find and Load, scratch cleared, refused with zeros\n",
+    println!(tally.out;
+        "compared: Find with Draw plan and then Run, words untouched by Find and Load, scratch cleared, refused with zeros"
     )?;
-    print_count(&tally.out, tally.words[FOUND])?;
-    print_count(&tally.out, tally.words[UNTOUCHED])?;
-    print_count(&tally.out, tally.words[CLEARED])?;
-    print_count(&tally.out, tally.words[REFUSED])?;
-    tally.out.write_all(b"\n")
+    print_words(tally, [FOUND, UNTOUCHED, CLEARED, REFUSED])
 }
 
 pub fn print_answers(tally: &Tally<impl Print>) -> io::Result<()> {
-    tally
-        .out
-        .write_all(b"accepted; refused with 19, 20, 21, 22 and 24\n")?;
-    print_count(&tally.out, tally.words[ACCEPTED])?;
-    print_count(&tally.out, tally.words[GIVEN + 19])?;
-    print_count(&tally.out, tally.words[GIVEN + 20])?;
-    print_count(&tally.out, tally.words[GIVEN + 21])?;
-    print_count(&tally.out, tally.words[GIVEN + 22])?;
-    print_count(&tally.out, tally.words[GIVEN + 24])?;
-    tally.out.write_all(b"\n")
+    println!(tally.out; "accepted; refused with 19, 20, 21, 22 and 24")?;
+    print_words(
+        tally,
+        [
+            ACCEPTED,
+            GIVEN + 19,
+            GIVEN + 20,
+            GIVEN + 21,
+            GIVEN + 22,
+            GIVEN + 24,
+        ],
+    )
 }

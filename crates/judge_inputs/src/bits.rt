@@ -1,54 +1,76 @@
-// Packed fields, the most significant bit first.
-
-pub fn add(a: usize, b: usize) -> usize {
-    std::num::wrapping_add_usize(a, b)
-}
-
-pub fn sub(a: usize, b: usize) -> usize {
-    std::num::wrapping_sub_usize(a, b)
-}
+// Packed fields, the most significant bit first. A bit outside a file is written nowhere, and reads as 0.
 
 // Turns bit i of a file over, if `bit` is 1.
 pub fn flip(file: &mut [u8], i: usize, bit: u8) {
-    let at = i / 8;
-    if at < file.len() {
-        file[at] = file[at] ^ (bit << (7 - i % 8));
+    if let Some(byte) = file.get_mut(i / 8) {
+        *byte ^= bit << (7 - i % 8);
     }
 }
 
-// Puts a field into a file whose bits there are 0, or turns over those that are 1 in it; answers the bit
-// position after it.
-pub fn put_field(file: &mut [u8], at: usize, width: usize, value: usize) -> usize {
+// Puts a field into a file whose bits there are 0, or turns over those that are 1 in it.
+pub fn put_field(file: &mut [u8], at: usize, width: usize, value: usize) {
     let mut rest = value;
-    let mut i = width;
-    while 0 < i {
-        i -= 1;
-        flip(file, add(at, i), (rest % 2) as u8);
-        rest = rest / 2;
+    for i in (0..width).rev() {
+        flip(file, at.wrapping_add(i), (rest % 2) as u8);
+        rest /= 2;
     }
-    add(at, width)
 }
 
-// Bit i of a file; 0 outside it.
-pub fn bit(file: &[u8], i: usize) -> usize {
-    let at = i / 8;
-    if at < file.len() {
-        let byte = file[at];
-        return ((byte >> (7 - i % 8)) % 2) as usize;
-    }
-    0
-}
-
-// The field of so many bits at a position.
-pub fn field(file: &[u8], at: usize, width: usize) -> usize {
-    let mut value = 0;
-    for i in 0..width {
-        value = value << 1 | bit(file, add(at, i));
-    }
-    value
+// Bit i of a file.
+fn bit(file: &[u8], i: usize) -> usize {
+    let byte = file.get(i / 8).copied().unwrap_or(0);
+    ((byte >> (7 - i % 8)) % 2) as usize
 }
 
 // The bytes that so many bits take.
 pub fn bytes_for(bits: usize) -> usize {
-    add(bits, 7) / 8
+    bits.wrapping_add(7) / 8
+}
+
+// Writes a file of zeros field after field.
+#[derive(Drop)]
+pub struct Writer<'a> {
+    file: &'a mut [u8],
+    // The bit at which the next field begins.
+    at: usize,
+}
+
+impl<'a> Writer<'a> {
+    // From a bit on.
+    pub fn new(file: &'a mut [u8], at: usize) -> Self {
+        Writer { file, at }
+    }
+
+    pub fn put(&mut self, width: usize, value: usize) {
+        put_field(self.file, self.at, width, value);
+        self.at = self.at.wrapping_add(width);
+    }
+
+    // The bytes up to here.
+    pub fn bytes(&self) -> usize {
+        bytes_for(self.at)
+    }
+}
+
+// Reads a file field after field.
+#[derive(Drop)]
+pub struct Reader<'a> {
+    file: &'a [u8],
+    // The bit at which the next field begins.
+    at: usize,
+}
+
+impl<'a> Reader<'a> {
+    pub fn new(file: &'a [u8]) -> Self {
+        Reader { file, at: 0 }
+    }
+
+    pub fn take(&mut self, width: usize) -> usize {
+        let mut value = 0;
+        for _ in 0..width {
+            value = value << 1 | bit(self.file, self.at);
+            self.at = self.at.wrapping_add(1);
+        }
+        value
+    }
 }

@@ -1,205 +1,251 @@
 // A graph: up to 16 vertices that may have edges, named by their places, and spread over the numbers below N.
-// It is one array: the words named below, then a cell for each source, label and target, in the file's order,
-// which is 1 where the edge is there.
+ghost use Rattle.std.specs.Prelude.{◌<◌};
+
 use crate::bits::*;
-use crate::random::*;
-
-pub type Graph = [usize; WORDS];
-
-pub const WORDS: usize = 1040;
+use crate::random::Random;
 
 pub const FILE_BYTES: usize = 5120;
 
-pub const VERTICES: usize = 0;
-
-pub const EDGES: usize = 1;
-
-pub const PLACES: usize = 2;
-
-// The number of place 0, and the bits by which a place is shifted to get from there to its number.
-const FIRST: usize = 3;
-
-const SHIFT: usize = 4;
-
-// How many edge labels are used.
-const LABEL_COUNT: usize = 5;
-
-// Two bits of this word for each place choose its label, and two of the next its day.
-const LABEL_BITS: usize = 7;
-
-const DAYS: usize = 8;
-
-const CELLS: usize = 16;
-
 const CELL_COUNT: usize = 1024;
 
-// Above every place.
-pub const NO_PLACE: usize = 16;
+// The edge labels, by their indices.
+const EDGE_LABELS: [usize; 4] = [1, 2, 128, 255];
 
-// The vertex number of a place.
-fn number(g: &Graph, k: usize) -> usize {
-    add(g[FIRST], (k % 16) << (g[SHIFT] % 8))
+const VERTEX_LABELS: [usize; 4] = [0, 5, 700, 0];
+
+const DAYS: [usize; 4] = [0, 9447, 9448, 65535];
+
+#[derive(Clone, Copy)]
+pub struct Graph {
+    pub vertices: usize,
+    pub edges: usize,
+    pub places: usize,
+    // The number of place 0, and the bits by which a place is shifted to get from there to its number.
+    first: usize,
+    shift: usize,
+    // How many edge labels are used.
+    edge_labels: usize,
+    // Two bits for each place choose its label, and two its day.
+    label_bits: usize,
+    day_bits: usize,
+    // For each source, label and target, in the file's order, whether the edge is there.
+    cells: [bool; CELL_COUNT],
 }
 
-// The place of a vertex number, or NO_PLACE.
-pub fn place(g: &Graph, v: usize) -> usize {
-    let k = sub(v, g[FIRST]) >> (g[SHIFT] % 8);
-    if (k < g[PLACES]) & (number(g, k) == v) {
-        return k;
+// The places and the label's index of an edge.
+#[derive(Clone, Copy)]
+struct Cell {
+    source: usize,
+    label: usize,
+    target: usize,
+}
+
+impl Cell {
+    fn of(number: usize) -> Self {
+        Cell {
+            source: number / 64 % 16,
+            label: number / 16 % 4,
+            target: number % 16,
+        }
     }
-    NO_PLACE
+
+    fn number(self) -> usize
+        ensures { result < 1024 }
+    {
+        self.source % 16 * 64 + self.label % 4 * 16 + self.target % 16
+    }
 }
 
 // The edge label of an index below 4.
 pub fn edge_label(l: usize) -> usize {
-    let labels = [1, 2, 128, 255];
-    labels[l % 4]
+    EDGE_LABELS[l % 4]
 }
 
 // The vertex label that the i-th two bits of a word choose.
 pub fn vertex_label(word: usize, i: usize) -> usize {
-    let labels = [0, 5, 700, 0];
-    labels[(word >> (i % 16 * 2)) % 4]
+    VERTEX_LABELS[(word >> (i % 16 * 2)) % 4]
 }
 
-// The label of the vertex of a place.
-pub fn label(g: &Graph, k: usize) -> usize {
-    vertex_label(g[LABEL_BITS], k)
-}
-
-// The inspection day of the vertex of a place.
-pub fn day(g: &Graph, k: usize) -> usize {
-    let days = [0, 9447, 9448, 65535];
-    days[(g[DAYS] >> (k % 16 * 2)) % 4]
-}
-
-// The graph has the edge of a label's index between two places.
-pub fn has(g: &Graph, s: usize, l: usize, t: usize) -> bool {
-    g[CELLS + s % 16 * 64 + l % 4 * 16 + t % 16] == 1
-}
-
-// Turns the edge of a cell over, as often as is drawn. Place 0 is a hub: its edges are turned over twice as
-// often.
-fn turn_edge(g: &mut Graph, cell: usize, percent: usize, seed: &mut u64) {
-    let places = g[PLACES];
-    let at = CELLS + cell % CELL_COUNT;
-    let hub = (cell < 64) as usize;
-    if (places <= cell / 64) | (places <= cell % 16) | (g[LABEL_COUNT] <= cell / 16 % 4) {
-        return;
-    }
-    if chance(seed, percent << (hub % 2)) {
-        g[at] = g[at] ^ 1;
-        g[EDGES] = sub(add(g[EDGES], g[at] << 1), 1);
-    }
-}
-
-// Turns each edge over so many times of a hundred: those that are there go, and others come.
-pub fn turn_edges(g: &mut Graph, percent: usize, seed: &mut u64) {
-    for cell in 0..CELL_COUNT {
-        turn_edge(g, cell, percent, seed);
-    }
-}
-
-// Turns edges over, one of four, whose labels' indices are not in a set of them. Every label is used from
-// here on.
-pub fn turn_others(g: &mut Graph, named: usize, seed: &mut u64) {
-    g[LABEL_COUNT] = 4;
-    for cell in 0..CELL_COUNT {
-        if (named >> (cell / 16 % 4)) % 2 == 0 {
-            turn_edge(g, cell, 25, seed);
+impl Graph {
+    // No vertices, and no edges.
+    pub fn empty() -> Self {
+        Graph {
+            vertices: 0,
+            edges: 0,
+            places: 0,
+            first: 0,
+            shift: 0,
+            edge_labels: 0,
+            label_bits: 0,
+            day_bits: 0,
+            cells: [false; CELL_COUNT],
         }
     }
-}
 
-// Spreads the places over the numbers, with a few vertices before and after them.
-fn spread(g: &mut Graph, seed: &mut u64) {
-    let places = g[PLACES];
-    g[FIRST] = below(seed, 3);
-    let most = below(seed, 7);
-    g[SHIFT] = below(seed, add(most, 1));
-    g[VERTICES] = below(seed, 3);
-    if 0 < places {
-        g[VERTICES] = add(g[VERTICES], add(number(g, places - 1), 1));
+    // A graph of so many places and edge labels, each edge drawn so many times of a hundred; every second has
+    // labels on its vertices, and four of five have days.
+    pub fn draw(places: usize, edge_labels: usize, percent: usize, random: &mut Random) -> Self {
+        let mut g = Graph::empty();
+        g.places = places;
+        g.edge_labels = edge_labels;
+        if random.chance(50) {
+            g.label_bits = random.below(4294967296);
+        }
+        if random.chance(80) {
+            g.day_bits = random.below(4294967296);
+        }
+        g.spread(random);
+        g.turn_edges(percent, random);
+        g
     }
-}
 
-// A graph of so many places and edge labels, each edge drawn so many times of a hundred; every second has
-// labels on its vertices, and four of five have days.
-pub fn draw(g: &mut Graph, places: usize, edge_labels: usize, percent: usize, seed: &mut u64) {
-    *g = [0; WORDS];
-    g[PLACES] = places;
-    g[LABEL_COUNT] = edge_labels;
-    if chance(seed, 50) {
-        g[LABEL_BITS] = below(seed, 4294967296);
+    // A random graph of fewer than so many places, and of up to three edge labels.
+    pub fn random(places: usize, random: &mut Random) -> Self {
+        let places = random.below(places);
+        let edge_labels = random.below(3).wrapping_add(1);
+        let percent = random.below(50).wrapping_add(10);
+        Graph::draw(places, edge_labels, percent, random)
     }
-    if chance(seed, 80) {
-        g[DAYS] = below(seed, 4294967296);
+
+    // Spreads the places over the numbers, with a few vertices before and after them.
+    fn spread(&mut self, random: &mut Random) {
+        self.first = random.below(3);
+        let most = random.below(7);
+        self.shift = random.below(most.wrapping_add(1));
+        self.vertices = random.below(3);
+        if 0 < self.places {
+            let last = self.number(self.places - 1);
+            self.vertices = self.vertices.wrapping_add(last.wrapping_add(1));
+        }
     }
-    spread(g, seed);
-    turn_edges(g, percent, seed);
-}
 
-// A random graph of up to 12 places and three edge labels.
-pub fn random(g: &mut Graph, seed: &mut u64) {
-    let places = below(seed, 13);
-    let edge_labels = add(1, below(seed, 3));
-    let percent = add(10, below(seed, 50));
-    draw(g, places, edge_labels, percent, seed);
-}
-
-// Writes the label and the day of a vertex number; one that has no place has no edges, and some label and
-// day.
-fn write_vertex(g: &Graph, v: usize, file: &mut [u8], at: usize) -> usize {
-    let k = place(g, v);
-    if k < NO_PLACE {
-        let days = put_field(file, at, 16, label(g, k));
-        return put_field(file, days, 16, day(g, k));
+    // The vertex number of a place.
+    fn number(&self, k: usize) -> usize {
+        self.first.wrapping_add((k % 16) << (self.shift % 8))
     }
-    let days = put_field(file, at, 16, v % 7);
-    put_field(file, days, 16, 65535 - v % 7)
-}
 
-fn write_vertices(g: &Graph, file: &mut [u8], from: usize) -> usize {
-    let mut at = from;
-    for v in 0..g[VERTICES] % 65536 {
-        at = write_vertex(g, v, file, at);
+    // The place of a vertex number.
+    pub fn place(&self, v: usize) -> Option<usize> {
+        let k = v.wrapping_sub(self.first) >> (self.shift % 8);
+        if k < self.places && self.number(k) == v {
+            Some(k)
+        } else {
+            None
+        }
     }
-    at
-}
 
-// Puts the edge of a cell, if an old graph has it and this one not, or the other way round; before it so many
-// bits that are 1 where this one has it.
-fn put_edge(g: &Graph, old: &Graph, cell: usize, bits: usize, file: &mut [u8], at: usize) -> usize {
-    let has = g[CELLS + cell % CELL_COUNT];
-    if old[CELLS + cell % CELL_COUNT] == has {
-        return at;
+    // The label of the vertex of a place.
+    pub fn label(&self, k: usize) -> usize {
+        vertex_label(self.label_bits, k)
     }
-    let source = put_field(file, at, bits, has);
-    let label = put_field(file, source, 16, number(g, cell / 64));
-    let target = put_field(file, label, 8, edge_label(cell / 16));
-    put_field(file, target, 16, number(g, cell))
-}
 
-fn write_edges(g: &Graph, old: &Graph, bits: usize, file: &mut [u8], from: usize) -> usize {
-    let mut at = from;
-    for cell in 0..CELL_COUNT {
-        at = put_edge(g, old, cell, bits, file, at);
+    // The inspection day of the vertex of a place.
+    pub fn day(&self, k: usize) -> usize {
+        DAYS[(self.day_bits >> (k % 16 * 2)) % 4]
     }
-    at
-}
 
-// Writes the graph's file over zeros and answers its length in bytes.
-pub fn write(g: &Graph, file: &mut [u8]) -> usize {
-    let none = [0usize; WORDS];
-    let edges = put_field(file, 0, 16, g[VERTICES]);
-    let vertices = put_field(file, edges, 20, g[EDGES]);
-    let listed = write_vertices(g, file, vertices);
-    bytes_for(write_edges(g, &none, 0, file, listed))
-}
+    // The graph has the edge of a label's index between two places.
+    pub fn has(&self, source: usize, label: usize, target: usize) -> bool {
+        let cell = Cell {
+            source,
+            label,
+            target,
+        };
+        self.cells[cell.number()]
+    }
 
-// Writes the file of the changes from an old graph to this one over zeros and answers its length in bytes.
-pub fn write_changes(g: &Graph, old: &Graph, file: &mut [u8]) -> usize {
-    let end = write_edges(g, old, 1, file, 20);
-    put_field(file, 0, 20, sub(end, 20) / 41);
-    bytes_for(end)
+    // Turns an edge over, as often as is drawn. Place 0 is a hub: its edges are turned over twice as often.
+    fn turn_edge(&mut self, cell: Cell, percent: usize, random: &mut Random) {
+        if self.places <= cell.source
+            || self.places <= cell.target
+            || self.edge_labels <= cell.label
+        {
+            return;
+        }
+        let hub = cell.source == 0;
+        if random.chance(if hub { percent << 1 } else { percent }) {
+            let i = cell.number();
+            let there = !self.cells[i];
+            self.cells[i] = there;
+            self.edges = if there {
+                self.edges.wrapping_add(1)
+            } else {
+                self.edges.wrapping_sub(1)
+            };
+        }
+    }
+
+    // Turns each edge over so many times of a hundred: those that are there go, and others come.
+    pub fn turn_edges(&mut self, percent: usize, random: &mut Random) {
+        for i in 0..CELL_COUNT {
+            self.turn_edge(Cell::of(i), percent, random);
+        }
+    }
+
+    // Turns edges over, one of four, whose labels' indices are not in a set of them. Every label is used from
+    // here on.
+    pub fn turn_others(&mut self, named: usize, random: &mut Random) {
+        self.edge_labels = 4;
+        for i in 0..CELL_COUNT {
+            let cell = Cell::of(i);
+            if (named >> (cell.label % 4)) % 2 == 0 {
+                self.turn_edge(cell, 25, random);
+            }
+        }
+    }
+
+    // Writes the label and the day of a vertex number; one that has no place has no edges, and some label and
+    // day.
+    fn write_vertex(&self, v: usize, w: &mut Writer) {
+        match self.place(v) {
+            Some(k) => {
+                w.put(16, self.label(k));
+                w.put(16, self.day(k));
+            }
+            None => {
+                w.put(16, v % 7);
+                w.put(16, 65535 - v % 7);
+            }
+        }
+    }
+
+    // Writes the edges that an old graph has and this one not, or the other way round; before each so many
+    // bits that are 1 where this one has it. Answers how many there are.
+    fn write_edges(&self, old: &Graph, bits: usize, w: &mut Writer) -> usize {
+        let mut count = 0usize;
+        for i in 0..CELL_COUNT {
+            let has = self.cells[i];
+            if has != old.cells[i] {
+                let cell = Cell::of(i);
+                w.put(bits, has as usize);
+                w.put(16, self.number(cell.source));
+                w.put(8, edge_label(cell.label));
+                w.put(16, self.number(cell.target));
+                count = count.wrapping_add(1);
+            }
+        }
+        count
+    }
+
+    // Writes the graph's file over zeros and answers its length in bytes.
+    pub fn write(&self, file: &mut [u8]) -> usize {
+        let mut w = Writer::new(file, 0);
+        w.put(16, self.vertices);
+        w.put(20, self.edges);
+        for v in 0..self.vertices % 65536 {
+            self.write_vertex(v, &mut w);
+        }
+        self.write_edges(&Graph::empty(), 0, &mut w);
+        w.bytes()
+    }
+
+    // Writes the file of the changes from an old graph to this one over zeros and answers its length in
+    // bytes.
+    pub fn write_changes(&self, old: &Graph, file: &mut [u8]) -> usize {
+        let mut w = Writer::new(file, 20);
+        let count = self.write_edges(old, 1, &mut w);
+        let bytes = w.bytes();
+        put_field(file, 0, 20, count);
+        bytes
+    }
 }

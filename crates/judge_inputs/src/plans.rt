@@ -1,58 +1,118 @@
-// A plan: one array with the words named below, the pile of the sets that the results cover, and the
-// operators, each as a number: 32 for each kind, and the operand.
-use crate::bits::*;
-use crate::queries;
-use crate::queries::Query;
-use crate::random::*;
-
-type Plan = [usize; WORDS];
-
-const WORDS: usize = 72;
-
-const COUNT: usize = 0;
-
-const DEPTH: usize = 1;
-
-const SETS: usize = 8;
-
-const OPERATORS: usize = 40;
+// A plan: its operators, and the pile of the results that they make.
+use crate::bits::Writer;
+use crate::queries::{Query, only};
+use crate::random::Random;
 
 const MAX_OPERATORS: usize = 31;
 
-const EXTEND: usize = 32;
-
-const JOIN: usize = 64;
-
-// The set of the result that lies under so many others.
-fn set_under(p: &Plan, under: usize) -> usize {
-    p[SETS + sub(p[DEPTH], add(under, 1)) % 32]
+#[derive(Clone, Copy)]
+enum Operator {
+    // Of the query edge of an index.
+    Scan(usize),
+    // By a query vertex.
+    Extend(usize),
+    Join,
 }
 
-// Adds an operator, whose result covers a set and takes the place of so many.
-fn put(p: &mut Plan, operator: usize, taken: usize, set: usize) {
-    let depth = sub(p[DEPTH], taken);
-    p[OPERATORS + p[COUNT] % 32] = operator;
-    p[COUNT] = add(p[COUNT], 1);
-    p[SETS + depth % 32] = set;
-    p[DEPTH] = add(depth, 1);
-}
-
-fn scan(p: &mut Plan, q: &Query, seed: &mut u64) {
-    let i = below(seed, q[queries::EDGES]);
-    let edge = queries::edge(q, i);
-    let ends = queries::only(queries::source(edge)) | queries::only(queries::target(edge));
-    put(p, i, 0, ends);
-}
-
-// Extends the top result by a random vertex, if it may be.
-fn extend(p: &mut Plan, q: &Query, seed: &mut u64) {
-    let v = below(seed, q[queries::VERTICES]) % 8;
-    let set = set_under(p, 0);
-    if set & queries::only(v) != 0 {
-        return;
+impl Operator {
+    fn write(self, w: &mut Writer) {
+        match self {
+            Operator::Scan(edge) => {
+                w.put(2, 0);
+                w.put(5, edge);
+            }
+            Operator::Extend(v) => {
+                w.put(2, 1);
+                w.put(3, v);
+            }
+            Operator::Join => w.put(2, 2),
+        }
     }
-    if set & queries::next_to(q, v) != 0 {
-        put(p, EXTEND + v, 1, set | queries::only(v));
+}
+
+#[derive(Clone, Copy)]
+struct Plan {
+    operators: [Operator; 32],
+    count: usize,
+    // The set of query vertices that each result covers, the topmost last, and how many results there are.
+    sets: [usize; 32],
+    depth: usize,
+}
+
+impl Plan {
+    fn empty() -> Self {
+        Plan {
+            operators: [Operator::Join; 32],
+            count: 0,
+            sets: [0; 32],
+            depth: 0,
+        }
+    }
+
+    // A random plan that is accepted: random operators until it is finished, on an empty plan after as many
+    // steps as a plan has operators at most. From step 500 on a plan has one scan.
+    fn random(q: &Query, random: &mut Random) -> Self {
+        let scans = random.below(60).wrapping_add(10);
+        let mut plan = Plan::empty();
+        for i in 0..1000usize {
+            if i % MAX_OPERATORS == 0 {
+                plan = Plan::empty();
+            }
+            plan.step(q, if i < 500 { scans } else { 0 }, random);
+            if plan.is_finished(q) {
+                break;
+            }
+        }
+        plan
+    }
+
+    // The set of the result that lies under so many others.
+    fn set_under(&self, under: usize) -> usize {
+        self.sets[self.depth.wrapping_sub(under.wrapping_add(1)) % 32]
+    }
+
+    // Adds an operator, whose result covers a set and takes the place of so many.
+    fn put(&mut self, operator: Operator, taken: usize, set: usize) {
+        let depth = self.depth.wrapping_sub(taken);
+        self.operators[self.count % 32] = operator;
+        self.count = self.count.wrapping_add(1);
+        self.sets[depth % 32] = set;
+        self.depth = depth.wrapping_add(1);
+    }
+
+    // Scans a random edge.
+    fn scan(&mut self, q: &Query, random: &mut Random) {
+        let i = random.below(q.edges);
+        self.put(Operator::Scan(i), 0, q.edge(i).ends());
+    }
+
+    // Extends the top result by a random vertex, if it may be.
+    fn extend(&mut self, q: &Query, random: &mut Random) {
+        let v = random.below(q.vertices) % 8;
+        let set = self.set_under(0);
+        if set & only(v) == 0 && set & q.next_to(v) != 0 {
+            self.put(Operator::Extend(v), 1, set | only(v));
+        }
+    }
+
+    // One more operator: mostly a join where it may be, a scan so many times of a hundred, else an extend.
+    fn step(&mut self, q: &Query, scans: usize, random: &mut Random) {
+        let a = self.set_under(0);
+        let b = self.set_under(1);
+        let joins = random.chance(80);
+        let scans = random.chance(scans);
+        if joins && 1 < self.depth && may_join(q, a, b) {
+            self.put(Operator::Join, 2, a | b);
+        } else if scans || self.depth == 0 {
+            self.scan(q, random);
+        } else {
+            self.extend(q, random);
+        }
+    }
+
+    // The plan ends with one result that covers every vertex.
+    fn is_finished(&self, q: &Query) -> bool {
+        self.depth == 1 && self.sets[0].wrapping_add(1) == 1usize << (q.vertices % 16)
     }
 }
 
@@ -60,8 +120,8 @@ fn extend(p: &mut Plan, q: &Query, seed: &mut u64) {
 fn next_to_set(q: &Query, set: usize) -> usize {
     let mut found = 0;
     for v in 0..8usize {
-        if set & queries::only(v) != 0 {
-            found = found | queries::next_to(q, v);
+        if set & only(v) != 0 {
+            found |= q.next_to(v);
         }
     }
     found
@@ -72,71 +132,16 @@ fn next_to_set(q: &Query, set: usize) -> usize {
 fn may_join(q: &Query, a: usize, b: usize) -> bool {
     let shared = a & b;
     let lost = next_to_set(q, a ^ shared) & (b ^ shared);
-    (shared != 0) & (shared != a) & (shared != b) & (lost == 0)
+    shared != 0 && shared != a && shared != b && lost == 0
 }
 
-// One more operator: mostly a join where it may be, a scan so many times of a hundred, else an extend.
-fn step(p: &mut Plan, q: &Query, scans: usize, seed: &mut u64) {
-    let a = set_under(p, 0);
-    let b = set_under(p, 1);
-    let joins = chance(seed, 80);
-    let scans = chance(seed, scans);
-    if joins & (1 < p[DEPTH]) & may_join(q, a, b) {
-        put(p, JOIN, 2, a | b);
-        return;
+// Writes a random accepted plan over zeros, and answers its length in bytes.
+pub fn write_random(q: &Query, file: &mut [u8], random: &mut Random) -> usize {
+    let plan = Plan::random(q, random);
+    let mut w = Writer::new(file, 0);
+    w.put(5, plan.count);
+    for operator in plan.operators.iter().take(plan.count) {
+        operator.write(&mut w);
     }
-    if scans | (p[DEPTH] == 0) {
-        scan(p, q, seed);
-        return;
-    }
-    extend(p, q, seed);
-}
-
-// The plan ends with one result that covers every vertex.
-fn is_finished(p: &Plan, q: &Query) -> bool {
-    (p[DEPTH] == 1) & (add(p[SETS], 1) == 1usize << (q[queries::VERTICES] % 16))
-}
-
-// Step i: one more operator, on an empty plan after as many steps as a plan has operators at most; answers
-// whether it is finished. From step 500 on a plan has one scan.
-fn step_on(p: &mut Plan, q: &Query, i: usize, scans: usize, seed: &mut u64) -> bool {
-    if i % MAX_OPERATORS == 0 {
-        *p = [0; WORDS];
-    }
-    step(p, q, if i < 500 { scans } else { 0 }, seed);
-    is_finished(p, q)
-}
-
-// Random operators until the plan is finished.
-fn make(p: &mut Plan, q: &Query, seed: &mut u64) {
-    let scans = add(10, below(seed, 60));
-    for i in 0..1000usize {
-        if step_on(p, q, i, scans, seed) {
-            return;
-        }
-    }
-}
-
-fn write_operator(file: &mut [u8], at: usize, operator: usize) -> usize {
-    let operand = put_field(file, at, 2, operator / 32);
-    match operator / 32 {
-        0 => put_field(file, operand, 5, operator),
-        1 => put_field(file, operand, 3, operator),
-        _ => operand,
-    }
-}
-
-fn write(p: &Plan, file: &mut [u8], from: usize) -> usize {
-    let mut at = put_field(file, from, 5, p[COUNT]);
-    for i in 0..p[COUNT] % 32 {
-        at = write_operator(file, at, p[OPERATORS + i % 32]);
-    }
-    at
-}
-
-// Writes a random accepted plan over zeros from a bit position on, and answers the bit position after it.
-pub fn random(q: &Query, file: &mut [u8], from: usize, seed: &mut u64) -> usize {
-    let mut p = [0usize; WORDS];
-    make(&mut p, q, seed);
-    write(&p, file, from)
+    w.bytes()
 }

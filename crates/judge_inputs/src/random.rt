@@ -1,23 +1,39 @@
 // A stream of numbers that is the same in every run (xorshift, 64 bits).
+ghost use Rattle.std.specs.Prelude.{◌<◌};
 
-fn next(seed: &mut u64) -> u64 {
-    let a = *seed ^ (*seed << 13);
-    let b = a ^ (a >> 7);
-    let c = b ^ (b << 17);
-    *seed = c;
-    c >> 11
+#[derive(Clone, Copy)]
+pub struct Random {
+    state: u64,
 }
 
-// A number below n; 0 where n is 0.
-pub fn below(seed: &mut u64, n: usize) -> usize {
-    let x = next(seed) as usize;
-    if n == 0 {
-        return 0;
+impl Random {
+    pub fn new(seed: u64) -> Self {
+        Random { state: seed }
     }
-    x % n
-}
 
-// True so many times of a hundred.
-pub fn chance(seed: &mut u64, percent: usize) -> bool {
-    below(seed, 100) < percent
+    fn next(&mut self) -> u64 {
+        let a = self.state ^ (self.state << 13);
+        let b = a ^ (a >> 7);
+        let c = b ^ (b << 17);
+        self.state = c;
+        c >> 11
+    }
+
+    // A number below n; 0 where n is 0.
+    pub fn below(&mut self, n: usize) -> usize {
+        let x = self.next() as usize;
+        if n == 0 { 0 } else { x % n }
+    }
+
+    // True so many times of a hundred.
+    pub fn chance(&mut self, percent: usize) -> bool {
+        self.below(100) < percent
+    }
+
+    // One of a few.
+    pub fn pick<const N: usize>(&mut self, few: [usize; N]) -> usize
+        requires { 0 < N }
+    {
+        few[self.below(N) % N]
+    }
 }

@@ -3,17 +3,10 @@ use crate::lent::*;
 use crate::slices::*;
 use crate::stores::{judge_store, load_file};
 use crate::tally::*;
-use judge_inputs::bits::*;
 use judge_inputs::graphs;
 use judge_inputs::graphs::Graph;
-use judge_inputs::random::below;
+use judge_inputs::random::Random;
 use load::Loaded;
-
-// The one call of Apply changes.
-fn lend_stores(old: &[u32], file: &[u8], new: &mut [u32], words: usize) -> Loaded {
-    let room = least(words, new.len());
-    changes::apply_changes(old, file, &mut new[0..room])
-}
 
 // Apply changes to an old store, to so many marked words.
 fn apply(
@@ -23,8 +16,8 @@ fn apply(
     words: usize,
     tally: &mut Tally<impl Print>,
 ) -> Loaded {
-    *new = [MARK; LIST_WORDS];
-    let a = lend_stores(old, file, new, words);
+    new.fill(MARK);
+    let a = changes::apply_changes(old, file, first_mut(new, words));
     judge_store(a, new, words, tally);
     a
 }
@@ -33,20 +26,16 @@ fn apply(
 fn judge_unfit(old: &[u32], file: &[u8], refusal: u32, tally: &mut Tally<impl Print>) {
     let mut new = [0u32; LIST_WORDS];
     let a = apply(old, file, &mut new, MAX_WORDS, tally);
-    judge(tally, DAMAGED, a.refusal == refusal);
+    tally.judge(DAMAGED, a.refusal == refusal);
 }
 
 // Changes, with a byte more, a byte less, and to a store without its last word.
 fn judge_damaged(old: &[u32], long: &[u8], tally: &mut Tally<impl Print>) {
-    let bytes = sub(long.len(), 1);
+    let bytes = long.len().wrapping_sub(1);
     judge_unfit(old, long, 27, tally);
-    judge_unfit(old, part(long, 0, sub(bytes, 1)), 27, tally);
-    judge_unfit(
-        first(old, sub(old.len(), 1)),
-        part(long, 0, bytes),
-        19,
-        tally,
-    );
+    judge_unfit(old, first(long, bytes.wrapping_sub(1)), 27, tally);
+    let short = first(old, old.len().wrapping_sub(1));
+    judge_unfit(short, first(long, bytes), 19, tally);
 }
 
 // Changes to an old store make the one that the edited graph's file loads to; in a word less they are refused
@@ -59,14 +48,13 @@ fn judge_applied(
     tally: &mut Tally<impl Print>,
 ) -> usize {
     let mut loaded = [0u32; LIST_WORDS];
-    let words = store_words(h[graphs::VERTICES], h[graphs::EDGES]);
+    let words = graph_words(h);
     let a = load_file(h, &mut loaded, words, tally);
-    let small = apply(old, file, new, sub(words, 1), tally);
+    let small = apply(old, file, new, words.wrapping_sub(1), tally);
     let b = apply(old, file, new, words, tally);
-    let counts = (a.vertices == b.vertices) & (a.edges == b.edges) & (b.refusal == 0);
-    judge(tally, CHANGED, small.refusal == 5);
-    let same = counts & same_words(&loaded, new, LIST_WORDS);
-    judge(tally, CHANGED, same);
+    let counts = a.vertices == b.vertices && a.edges == b.edges && b.refusal == 0;
+    tally.judge(CHANGED, small.refusal == 5);
+    tally.judge(CHANGED, counts && loaded == *new);
     words
 }
 
@@ -80,25 +68,24 @@ fn judge_changed(
     tally: &mut Tally<impl Print>,
 ) {
     let mut edits = [0u8; graphs::FILE_BYTES];
-    let size = graphs::write_changes(h, g, &mut edits);
-    let long = part(&edits, 0, add(size, 1));
-    let exact = part(long, 0, size);
+    let size = h.write_changes(g, &mut edits);
+    let long = first(&edits, size.wrapping_add(1));
+    let exact = first(long, size);
     let again = if size == 3 { 0 } else { 28 };
-    let used = first(old, store_words(g[graphs::VERTICES], g[graphs::EDGES]));
+    let used = first(old, graph_words(g));
     let words = judge_applied(h, used, exact, new, tally);
     judge_damaged(used, long, tally);
     judge_unfit(first(new, words), exact, again, tally);
 }
 
 // Changes of few or many of a graph's edges, and back. The numbers drawn here are none of the stream's.
-pub fn random_changes(g: &Graph, old: &Store, seed: u64, tally: &mut Tally<impl Print>) {
-    let mut own = seed;
+pub fn random_changes(g: &Graph, old: &Store, stream: Random, tally: &mut Tally<impl Print>) {
+    let mut own = stream;
     let mut h = *g;
     let mut new = [0u32; LIST_WORDS];
     let mut back = [0u32; LIST_WORDS];
-    let percents = [0, 1, 1, 2, 5, 20, 50, 100];
-    let percent = percents[below(&mut own, 8) % 8];
-    graphs::turn_edges(&mut h, percent, &mut own);
+    let percent = own.pick([0, 1, 1, 2, 5, 20, 50, 100]);
+    h.turn_edges(percent, &mut own);
     judge_changed(g, &h, old, &mut new, tally);
     judge_changed(&h, g, &new, &mut back, tally);
 }

@@ -1,6 +1,6 @@
 // What the engine's operations are lent, and how its words are marked before.
 use crate::slices::all_are;
-use judge_inputs::bits::add;
+use judge_inputs::graphs::Graph;
 
 // What stands in the words before, and how many words past those that are lent are looked at.
 pub const MARK: u32 = 3735928559;
@@ -39,17 +39,20 @@ pub struct Lent {
 
 // The words of so many rows.
 pub fn row_words(rows: usize, width: usize) -> usize {
-    let r = rows % 65536;
-    let words = [0, r, r * 2, r * 3, r * 4, r * 5, r * 6, r * 7, r * 8];
-    words[width % 9]
+    rows % 65536 * (width % 9)
 }
 
 // The words from an index on are as before, also past those that are lent.
 pub fn is_marked(s: &[u32], from: usize, lent: usize) -> bool {
-    all_are(s, from, add(lent, MARGIN), MARK)
+    all_are(s, from, lent.wrapping_add(MARGIN), MARK)
 }
 
 // The words of the store of N vertices and M edges.
 pub fn store_words(n: usize, m: usize) -> usize {
     n % 65536 * 4 + m % 1048576 * 2 + 4
+}
+
+// The words of a graph's store.
+pub fn graph_words(g: &Graph) -> usize {
+    store_words(g.vertices, g.edges)
 }

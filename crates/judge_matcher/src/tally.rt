@@ -1,7 +1,8 @@
 // How often each kind of result was compared, how often all of them differed, and what the stream had.
 use std::io;
 
-// The counts, and what a result that differs is printed to. `written` is the first of those writes that failed.
+// The counts, and what a result that differs is printed to. `written` is the first of those writes that
+// failed.
 #[derive(Drop)]
 pub struct Tally<P: Print> {
     pub words: [u64; WORDS],
@@ -75,99 +76,72 @@ impl<P: Print> Tally<P> {
             written: Ok(()),
         }
     }
-}
 
-// Counts so many more of something.
-pub fn count(tally: &mut Tally<impl Print>, at: usize, more: u64) {
-    tally.words[at % WORDS] = std::num::wrapping_add_u64(tally.words[at % WORDS], more);
-}
-
-fn print_count(out: &impl Print, name: &[u8], value: u64) -> io::Result<()> {
-    out.write_all(name)?;
-    out.print(value)
-}
-
-fn print_differs(out: &impl Print, query: u64, kind: u64) -> io::Result<()> {
-    print_count(out, b"differs: query ", query)?;
-    print_count(out, b" kind ", kind)?;
-    out.write_all(b"\n")
-}
-
-// Counts a comparison of a kind, and prints the query's number and the kind's where it differed.
-pub fn judge(tally: &mut Tally<impl Print>, kind: usize, same: bool) {
-    count(tally, kind, 1);
-    if same {
-        return;
+    // Counts so many more of something.
+    pub fn count(&mut self, at: usize, more: u64) {
+        self.words[at % WORDS] = self.words[at % WORDS].wrapping_add(more);
     }
-    count(tally, DIFFERED, 1);
-    let printed = print_differs(&tally.out, tally.words[QUERIES], kind as u64);
-    if tally.written.is_ok() {
-        tally.written = printed;
+
+    // Counts a comparison of a kind, and prints the query's number and the kind's where it differed.
+    pub fn judge(&mut self, kind: usize, same: bool) {
+        self.count(kind, 1);
+        if !same {
+            self.count(DIFFERED, 1);
+            let query = self.words[QUERIES];
+            let printed = println!(self.out; "differs: query {query} kind {kind}");
+            if self.written.is_ok() {
+                self.written = printed;
+            }
+        }
     }
-}
 
-// Counts an answer's refusal. Refused, its other numbers are to be zeros.
-pub fn judge_refusal(tally: &mut Tally<impl Print>, refusal: u32, zeros: bool) {
-    count(tally, REFUSALS + refusal as usize % 40, 1);
-    judge(tally, REFUSED, (refusal == 0) | zeros);
-}
-
-// Prints what some words of the tally count, and under it those words.
-pub fn print_counts(
-    names: &[u8],
-    tally: &Tally<impl Print>,
-    from: usize,
-    to: usize,
-) -> io::Result<()> {
-    tally.out.write_all(names)?;
-    for i in from..to {
-        print_count(&tally.out, b" ", tally.words[i % WORDS])?;
+    // Counts an answer's refusal. Refused, its other numbers are to be zeros.
+    pub fn judge_refusal(&mut self, refusal: u32, zeros: bool) {
+        self.count(REFUSALS + refusal as usize % 40, 1);
+        self.judge(REFUSED, refusal == 0 || zeros);
     }
-    tally.out.write_all(b"\n")
-}
 
-pub fn print(tally: &Tally<impl Print>) -> io::Result<()> {
-    print_counts(
-        b"compared: worked cases, graphs and queries read, rows against the matcher, two plans of a query, cache on against off\n",
-        tally,
-        WORKED,
-        SCRATCH,
-    )?;
-    print_counts(
-        b"compared: scratch lengths around the need, list of its rows and a word short, words and records untouched, scratch cleared\n",
-        tally,
-        SCRATCH,
-        REFUSED,
-    )?;
-    print_counts(
-        b"compared: refused with zeros, damaged graph and change files, records that add up and one short, changes against loading and back\n",
-        tally,
-        REFUSED,
-        DIFFERED,
-    )?;
-    print_counts(
-        b"compared: runs and drawn plans over other edges of labels that the query does not name\n",
-        tally,
-        OTHERS,
-        OTHERS + 1,
-    )?;
-    print_counts(b"differed in all\n", tally, DIFFERED, GRAPHS)?;
-    print_counts(
-        b"graphs, queries, those with matches and a range of days, with matches and pairs, pairs of unlike plans\n",
-        tally,
-        GRAPHS,
-        FILLED,
-    )?;
-    print_counts(
-        b"plans with rows, with joined rows, where the cache saved, rows\n",
-        tally,
-        FILLED,
-        ROWS + 1,
-    )?;
-    print_counts(
-        b"refused with 1 to 30\n",
-        tally,
-        REFUSALS + 1,
-        REFUSALS + 31,
-    )
+    // Prints what some words of the tally count, and under it those words.
+    pub fn print_counts(&self, names: &str, from: usize, to: usize) -> io::Result<()> {
+        print!(self.out; "{names}")?;
+        for count in self.words.iter().take(to).skip(from) {
+            print!(self.out; " {count}")?;
+        }
+        println!(self.out; "")
+    }
+
+    pub fn print(&self) -> io::Result<()> {
+        self.print_counts(
+            "compared: worked cases, graphs and queries read, rows against the matcher, two plans of a query, cache on against off\n",
+            WORKED,
+            SCRATCH,
+        )?;
+        self.print_counts(
+            "compared: scratch lengths around the need, list of its rows and a word short, words and records untouched, scratch cleared\n",
+            SCRATCH,
+            REFUSED,
+        )?;
+        self.print_counts(
+            "compared: refused with zeros, damaged graph and change files, records that add up and one short, changes against loading and back\n",
+            REFUSED,
+            DIFFERED,
+        )?;
+        self.print_counts(
+            "compared: runs and drawn plans over other edges of labels that the query does not name\n",
+            OTHERS,
+            OTHERS + 1,
+        )?;
+        self.print_counts("differed in all\n", DIFFERED, GRAPHS)?;
+        self.print_counts(
+            "graphs, queries, those with matches and a range of days, with matches and pairs, pairs of unlike plans\n",
+            GRAPHS,
+            FILLED,
+        )?;
+        self.print_counts(
+            "plans with rows, with joined rows, where the cache saved, rows\n",
+            FILLED,
+            ROWS + 1,
+        )?;
+        self.print_counts("refused with 1 to 30\n", REFUSALS + 1, REFUSALS + 31)
+    }
 }

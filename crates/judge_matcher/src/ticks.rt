@@ -1,90 +1,89 @@
 // The rows of a match list, ticked off against the matches of the matcher.
 use crate::lent::*;
-use crate::matcher;
+use crate::matcher::Row;
 use crate::slices::*;
 use crate::tally::*;
-use judge_inputs::bits::add;
-use judge_inputs::graphs;
 use judge_inputs::graphs::Graph;
 
-// The rows of the matches, ascending; how often the lists so far had each; and how many matches there are.
-pub type Matches = [u32; WORDS];
+const MAX_MATCHES: usize = 2048;
 
-pub const WORDS: usize = 2 * MAX_MATCHES + 1;
+#[derive(Drop)]
+pub struct Matches {
+    // The rows of the matches, ascending, as far as there is room.
+    rows: [u32; MAX_MATCHES],
+    // How often the lists so far had each.
+    ticks: [u32; MAX_MATCHES],
+    // How many matches there are.
+    pub total: usize,
+}
 
-pub const MAX_MATCHES: usize = 2048;
+// The row of places of a list's row; None where a vertex has no place.
+fn row_of(g: &Graph, vertices: &[u32]) -> Option<Row> {
+    let mut row = Row { bits: 0 };
+    for (v, vertex) in vertices.iter().enumerate() {
+        row = row.moved_on(v, g.place(*vertex as usize)?);
+    }
+    Some(row)
+}
 
-pub const TICKS: usize = MAX_MATCHES;
-
-pub const TOTAL: usize = 2 * MAX_MATCHES;
-
-// Above every row.
-const NO_ROW: usize = 4294967296;
-
-// The row of places at an index of the list; NO_ROW where a vertex has no place.
-fn row_at(g: &Graph, width: usize, list: &List, at: usize) -> usize {
-    let mut row = 0;
-    for v in 0..width {
-        let k = graphs::place(g, word(list, add(at, v)));
-        if k == graphs::NO_PLACE {
-            return NO_ROW;
+impl Matches {
+    // None yet.
+    pub fn none() -> Self {
+        Matches {
+            rows: [0; MAX_MATCHES],
+            ticks: [0; MAX_MATCHES],
+            total: 0,
         }
-        row = matcher::move_on(row, v, k);
     }
-    row
-}
 
-// An index so many matches on, if the match there is not above a row; else the index itself.
-fn not_above(matches: &Matches, row: usize, i: usize, more: usize) -> usize {
-    let j = add(i, more);
-    if (j < word(matches, TOTAL)) & (word(matches, j) <= row) {
-        return j;
+    // Lists a match, as far as there is room.
+    pub fn put(&mut self, row: Row) {
+        self.rows[self.total % MAX_MATCHES] = row.bits;
+        self.total = self.total.wrapping_add(1);
     }
-    i
-}
 
-// The index of the last match that is not above a row; 0 where there is none.
-fn find(matches: &Matches, row: usize) -> usize {
-    let mut i = 0;
-    for k in 0..11usize {
-        i = not_above(matches, row, i, 1024usize >> (k % 32));
+    // There was room for all.
+    pub fn are_listed(&self) -> bool {
+        self.total < MAX_MATCHES
     }
-    i
-}
 
-// Ticks a row off; answers whether it is a match, and was ticked off once for each of so many lists.
-fn tick_off(matches: &mut Matches, row: usize, lists: usize) -> bool {
-    let i = find(matches, row) % MAX_MATCHES;
-    if word(matches, i) != row {
-        return false;
-    }
-    matches[TICKS + i] = std::num::wrapping_add_u32(matches[TICKS + i], 1);
-    word(matches, TICKS + i) == lists
-}
-
-// The last of so many lists has every match as a row, once, and no other row.
-pub fn are_matches(
-    g: &Graph,
-    matches: &mut Matches,
-    lists: usize,
-    rows: usize,
-    width: usize,
-    list: &List,
-) -> bool {
-    let mut at = 0;
-    for _ in 0..rows {
-        if !tick_off(matches, row_at(g, width, list, at), lists) {
-            return false;
+    // Ticks a row off; answers whether it is a match, and was ticked off once for each of so many lists.
+    fn tick_off(&mut self, row: Row, lists: u32) -> bool {
+        match first(&self.rows, self.total).binary_search(&row.bits) {
+            Ok(i) => {
+                let ticks = self.ticks[i % MAX_MATCHES].wrapping_add(1);
+                self.ticks[i % MAX_MATCHES] = ticks;
+                ticks == lists
+            }
+            Err(_) => false,
         }
-        at = add(at, width);
     }
-    rows == word(matches, TOTAL)
-}
 
-// Two lists had each match once, and so the same rows.
-pub fn judge_pair(matches: &Matches, files: &Files, other: &Files, tally: &mut Tally<impl Print>) {
-    let end = add(TICKS, word(matches, TOTAL));
-    let twice = all_are(matches, TICKS, end, 2);
-    judge(tally, PAIRS, twice);
-    count(tally, UNLIKE, !same_bytes(files, other) as u64);
+    // The last of so many lists has every match as a row, once, and no other row.
+    pub fn are_rows(
+        &mut self,
+        g: &Graph,
+        lists: u32,
+        rows: usize,
+        width: usize,
+        list: &List,
+    ) -> bool {
+        for vertices in list.chunks_exact(width.max(1)).take(rows) {
+            let ticked = match row_of(g, vertices) {
+                Some(row) => self.tick_off(row, lists),
+                None => false,
+            };
+            if !ticked {
+                return false;
+            }
+        }
+        rows == self.total
+    }
+
+    // Two lists had each match once, and so the same rows.
+    pub fn judge_pair(&self, files: &Files, other: &Files, tally: &mut Tally<impl Print>) {
+        let twice = first(&self.ticks, self.total).iter().all(|t| *t == 2);
+        tally.judge(PAIRS, twice);
+        tally.count(UNLIKE, (files != other) as u64);
+    }
 }

@@ -1,13 +1,11 @@
 // All orderings over marked words, with what it leaves there judged: against the model, in words and scratch
 // of many lengths, refused, and over another store.
-use crate::model;
 use crate::model::Spectrum;
 use crate::tallied::*;
-use judge_inputs::bits::*;
-use judge_inputs::random::below;
+use judge_inputs::random::Random;
 use judge_matcher::lent::{Files, MARK, Store, is_marked};
 use judge_matcher::slices::*;
-use judge_matcher::tally::{CLEARED, Tally, UNTOUCHED, judge, judge_refusal};
+use judge_matcher::tally::{CLEARED, Tally, UNTOUCHED};
 use plan_spectrum::OrderingsAnswer;
 
 const MAX_WORDS: usize = 896;
@@ -34,10 +32,9 @@ fn call(
     words: &mut [u32],
 ) -> OrderingsAnswer {
     let used = first(store, w.store);
-    let query = part(files, 0, w.query);
-    let room = least(w.scratch, scratch.len());
-    let end = least(w.words, words.len());
-    plan_spectrum::orderings(used, query, &mut scratch[0..room], &mut words[0..end])
+    let query = first(files, w.query);
+    let work = first_mut(scratch, w.scratch);
+    plan_spectrum::orderings(used, query, work, first_mut(words, w.words))
 }
 
 // A call over marked words. It clears the scratch, and touches nothing past what it is lent; refused, no word
@@ -53,21 +50,19 @@ fn orderings(
     let mut scratch = [MARK; MAX_SCRATCH];
     let a = call(store, files, w, &mut scratch, words);
     let from = if a.refusal == 0 { made } else { 0 };
-    let untouched = is_marked(&scratch, w.scratch, w.scratch) & is_marked(words, from, w.words);
-    judge(tally, CLEARED, all_are(&scratch, 0, w.scratch, 0));
-    judge(tally, UNTOUCHED, untouched);
-    judge_refusal(tally, a.refusal, a.plans == 0);
+    let untouched = is_marked(&scratch, w.scratch, w.scratch) && is_marked(words, from, w.words);
+    tally.judge(CLEARED, all_are(&scratch, 0, w.scratch, 0));
+    tally.judge(UNTOUCHED, untouched);
+    tally.judge_refusal(a.refusal, a.plans == 0);
     a
 }
 
 // The words are the model's entries.
 fn are_entries(words: &Words, l: &Spectrum) -> bool {
-    for i in 0..l[model::LENGTH] % MAX_WORDS {
-        if word(words, i) != l[i % model::WORDS] {
-            return false;
-        }
-    }
-    true
+    words
+        .iter()
+        .zip(l.entries())
+        .all(|(word, entry)| *word as usize == *entry)
 }
 
 // All orderings are listed.
@@ -79,9 +74,9 @@ fn judge_listed(
     tally: &mut Tally<impl Print>,
 ) {
     let mut words = [MARK; MAX_WORDS];
-    let a = orderings(store, files, w, l[model::LENGTH], &mut words, tally);
-    let plans = (a.refusal == 0) & (a.plans == l[model::PLANS]);
-    judge(tally, LISTED, plans & are_entries(&words, l));
+    let a = orderings(store, files, w, l.length, &mut words, tally);
+    let plans = a.refusal == 0 && a.plans == l.plans;
+    tally.judge(LISTED, plans && are_entries(&words, l));
 }
 
 // What is refused, and with what.
@@ -95,7 +90,7 @@ pub fn judge_refused(
 ) {
     let mut words = [MARK; MAX_WORDS];
     let a = orderings(store, files, w, 0, &mut words, tally);
-    judge(tally, kind, a.refusal == refusal);
+    tally.judge(kind, a.refusal == refusal);
 }
 
 // In a list of the entries and in a longer one; in one a word short or of no words, 32.
@@ -107,13 +102,13 @@ fn judge_lengths(
     tally: &mut Tally<impl Print>,
 ) {
     let mut w = with;
-    w.words = l[model::LENGTH];
-    w.scratch = l[model::GREATEST];
+    w.words = l.length;
+    w.scratch = l.greatest;
     judge_listed(store, files, w, l, tally);
-    w.words = add(w.words, 3);
-    w.scratch = add(w.scratch, 5);
+    w.words = w.words.wrapping_add(3);
+    w.scratch = w.scratch.wrapping_add(5);
     judge_listed(store, files, w, l, tally);
-    w.words = sub(l[model::LENGTH], 1);
+    w.words = l.length.wrapping_sub(1);
     judge_refused(store, files, w, 32, SHORT, tally);
     w.scratch = 0;
     judge_refused(store, files, w, 32, SHORT, tally);
@@ -131,10 +126,12 @@ fn judge_scratch(
     tally: &mut Tally<impl Print>,
 ) {
     let mut w = with;
-    w.words = l[model::LENGTH];
-    for scratch in sub(l[model::LEAST], 1)..l[model::GREATEST] % MAX_SCRATCH {
-        w.scratch = scratch;
-        judge_refused(store, files, w, 20, SCRATCH, tally);
+    w.words = l.length;
+    if let Some(least) = l.least {
+        for scratch in least.wrapping_sub(1)..l.greatest % MAX_SCRATCH {
+            w.scratch = scratch;
+            judge_refused(store, files, w, 20, SCRATCH, tally);
+        }
     }
 }
 
@@ -149,14 +146,14 @@ pub fn judge_damaged(
 ) {
     let mut w = with;
     let refusal = if large { 31 } else { 19 };
-    w.store = sub(with.store, 1);
+    w.store = with.store.wrapping_sub(1);
     w.words = 0;
     judge_refused(store, files, w, refusal, ORDER, tally);
     w.scratch = 9;
     judge_refused(store, files, w, refusal, ORDER, tally);
-    w.query = sub(with.query, 1);
+    w.query = with.query.wrapping_sub(1);
     judge_refused(store, files, w, 6, ORDER, tally);
-    w.query = add(with.query, 1);
+    w.query = with.query.wrapping_add(1);
     judge_refused(store, files, w, 7, ORDER, tally);
 }
 
@@ -171,15 +168,6 @@ pub fn judge_all(
     judge_scratch(store, files, w, l, tally);
 }
 
-fn same_words(a: &Words, b: &Words) -> bool {
-    for i in 0..MAX_WORDS {
-        if a[i] != b[i] {
-            return false;
-        }
-    }
-    true
-}
-
 // Over each of two stores, the second of so many words: the answer, and every word afterwards.
 fn same_orderings(one: &Store, two: &Store, files: &Files, w: Lent, words: usize) -> bool {
     let mut scratch = [MARK; MAX_WORDS];
@@ -190,8 +178,8 @@ fn same_orderings(one: &Store, two: &Store, files: &Files, w: Lent, words: usize
     v.store = words;
     let a = call(one, files, w, &mut scratch, &mut list);
     let b = call(two, files, v, &mut scratch_two, &mut list_two);
-    let same = (a.refusal == b.refusal) & (a.plans == b.plans);
-    same & same_words(&list, &list_two) & same_words(&scratch, &scratch_two)
+    let same = a.refusal == b.refusal && a.plans == b.plans;
+    same && list == list_two && scratch == scratch_two
 }
 
 // In lengths that fit, and in some around these.
@@ -202,15 +190,15 @@ pub fn judge_stores(
     with: Lent,
     l: &Spectrum,
     words: usize,
-    seed: &mut u64,
+    random: &mut Random,
     tally: &mut Tally<impl Print>,
 ) {
     let mut w = with;
-    w.words = l[model::LENGTH];
-    w.scratch = l[model::GREATEST];
-    judge(tally, OTHERS, same_orderings(one, two, files, w, words));
-    w.scratch = sub(add(w.scratch, 1), below(seed, 8));
-    judge(tally, OTHERS, same_orderings(one, two, files, w, words));
-    w.words = sub(add(w.words, 1), below(seed, 3));
-    judge(tally, OTHERS, same_orderings(one, two, files, w, words));
+    w.words = l.length;
+    w.scratch = l.greatest;
+    tally.judge(OTHERS, same_orderings(one, two, files, w, words));
+    w.scratch = w.scratch.wrapping_add(1).wrapping_sub(random.below(8));
+    tally.judge(OTHERS, same_orderings(one, two, files, w, words));
+    w.words = w.words.wrapping_add(1).wrapping_sub(random.below(3));
+    tally.judge(OTHERS, same_orderings(one, two, files, w, words));
 }

@@ -9,6 +9,7 @@ mod searching;
 mod stream;
 mod tallied;
 
+use judge_inputs::random::Random;
 use judge_matcher::tally::Tally;
 use std::io;
 
@@ -17,10 +18,10 @@ const GRAPHS: usize = 400;
 const SEED: u64 = 88172645463325252;
 
 fn main(rt: HostRuntime) -> io::Result<()> {
-    let mut seed = SEED;
+    let mut random = Random::new(SEED);
     let mut tally = Tally::new(&rt);
-    rt.write_all(b"judge_orderings\n")?;
-    stream::judge_graphs(GRAPHS, &mut seed, &mut tally);
+    println!(rt; "judge_orderings")?;
+    stream::judge_graphs(GRAPHS, &mut random, &mut tally);
     tallied::print(&tally)?;
     tally.written
 }

@@ -1,6 +1,6 @@
 // What is counted, as words of the tally, and printed at the end.
 use judge_matcher::tally::{
-    CLEARED, DIFFERED, GRAPHS, QUERIES, REFUSALS, REFUSED, Tally, UNTOUCHED, print_counts,
+    CLEARED, DIFFERED, GRAPHS, QUERIES, REFUSALS, REFUSED, Tally, UNTOUCHED,
 };
 use std::io;
 
@@ -24,31 +24,27 @@ pub const SMALL: usize = 17;
 pub const ORDERINGS: usize = 18;
 
 pub fn print(tally: &Tally<impl Print>) -> io::Result<()> {
-    print_counts(
-        b"compared: lists against the model, lists too short, scratches below the need, over other edges of labels that the query does not name, refusals in order\n",
-        tally,
+    tally.print_counts(
+        "compared: lists against the model, lists too short, scratches below the need, over other edges of labels that the query does not name, refusals in order\n",
         LISTED,
         ORDER + 1,
     )?;
-    print_counts(
-        b"compared: words untouched, scratch cleared, refused with zeros\n",
-        tally,
+    tally.print_counts(
+        "compared: words untouched, scratch cleared, refused with zeros\n",
         UNTOUCHED,
         REFUSED + 1,
     )?;
-    print_counts(b"differed in all\n", tally, DIFFERED, DIFFERED + 1)?;
-    print_counts(b"graphs, queries\n", tally, GRAPHS, QUERIES + 1)?;
-    print_counts(
-        b"queries of more than five vertices, those whose orderings were listed, orderings\n",
-        tally,
+    tally.print_counts("differed in all\n", DIFFERED, DIFFERED + 1)?;
+    tally.print_counts("graphs, queries\n", GRAPHS, QUERIES + 1)?;
+    tally.print_counts(
+        "queries of more than five vertices, those whose orderings were listed, orderings\n",
         LARGE,
         ORDERINGS + 1,
     )?;
-    print_counts(
-        b"refused with 19, 20, 31, 32\n",
-        tally,
+    tally.print_counts(
+        "refused with 19, 20, 31, 32\n",
         REFUSALS + 19,
         REFUSALS + 21,
     )?;
-    print_counts(b"", tally, REFUSALS + 31, REFUSALS + 33)
+    tally.print_counts("", REFUSALS + 31, REFUSALS + 33)
 }

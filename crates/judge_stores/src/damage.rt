@@ -1,167 +1,193 @@
 // Damages of a store: two words of it are given other values, which are put back afterwards. Some leave it as
 // it was, or the store of another graph.
 use crate::layout::*;
-use judge_inputs::bits::*;
-use judge_inputs::random::*;
+use judge_inputs::random::Random;
 use judge_matcher::slices::word;
 
-// Two places of a store, and what stands there or is to.
-#[derive(Drop)]
-pub struct Pair {
-    pub i: usize,
-    pub x: usize,
-    pub j: usize,
-    pub y: usize,
+// A place of a store, and what stands there or is to.
+#[derive(Clone, Copy)]
+struct Put {
+    at: usize,
+    word: usize,
 }
 
-// Puts two words; answers what stood there.
-pub fn exchange(s: &mut Words, p: Pair) -> Pair {
-    let before = Pair {
-        i: p.i,
-        x: word(s, p.i),
-        j: p.j,
-        y: word(s, p.j),
-    };
-    put(s, p.i, p.x);
-    put(s, p.j, p.y);
-    before
+// Two words.
+#[derive(Clone, Copy)]
+pub struct Damage {
+    one: Put,
+    two: Put,
+}
+
+impl Damage {
+    // Puts the words; answers what stood there.
+    pub fn exchange(self, s: &mut Words) -> Self {
+        let before = Damage {
+            one: at(s, self.one.at),
+            two: at(s, self.two.at),
+        };
+        put(s, self.one.at, self.one.word);
+        put(s, self.two.at, self.two.word);
+        before
+    }
+
+    // One of all damages.
+    pub fn random(s: &Words, l: Layout, random: &mut Random) -> Self {
+        let side = random_side(random);
+        let v = random.below(l.vertices);
+        let hub = if random.chance(30) { 0 } else { v };
+        match random.below(12) {
+            0 => other_vertex(l, random),
+            1 => other_offset(s, l, side, random),
+            2 => other_count(s, random),
+            3 | 4 | 5 => of_entries(s, l, side, random),
+            6 | 7 => next_label(s, l, v, random),
+            _ => in_list(s, l, side, hub, random),
+        }
+    }
+}
+
+// What stands at a place.
+fn at(s: &Words, i: usize) -> Put {
+    Put {
+        at: i,
+        word: word(s, i),
+    }
 }
 
 // One word.
-fn only(i: usize, x: usize) -> Pair {
-    Pair { i, x, j: i, y: x }
+fn only(i: usize, x: usize) -> Damage {
+    let one = Put { at: i, word: x };
+    Damage { one, two: one }
 }
 
 // Two words, each in the other's place.
-fn crossed(s: &Words, i: usize, j: usize) -> Pair {
-    Pair {
-        i,
-        x: word(s, j),
-        j,
-        y: word(s, i),
+fn crossed(s: &Words, i: usize, j: usize) -> Damage {
+    Damage {
+        one: Put {
+            at: i,
+            word: word(s, j),
+        },
+        two: Put {
+            at: j,
+            word: word(s, i),
+        },
     }
 }
 
 // Two entries of one list exchanged: an entry and the next, or any two.
-pub fn in_list(s: &Words, l: Layout, side: usize, v: usize, seed: &mut u64) -> Pair {
-    let from = list_at(s, l, side, v);
-    let count = sub(list_at(s, l, side, add(v, 1)), from);
-    let i = add(from, below(seed, sub(count, 1)));
+fn in_list(s: &Words, l: Layout, side: Side, v: usize, random: &mut Random) -> Damage {
+    let list = l.list(s, side, v);
+    let count = list.end.wrapping_sub(list.start);
+    let i = list.start.wrapping_add(random.below(count.wrapping_sub(1)));
     if count < 2 {
-        return crossed(s, from, from);
+        return crossed(s, list.start, list.start);
     }
-    if chance(seed, 60) {
-        return crossed(s, i, add(i, 1));
+    if random.chance(60) {
+        return crossed(s, i, i.wrapping_add(1));
     }
-    crossed(s, i, add(from, below(seed, count)))
+    crossed(s, i, list.start.wrapping_add(random.below(count)))
 }
 
 // An entry of another label, neighbour, or anything.
-fn other_entry(e: usize, n: usize, seed: &mut u64) -> usize {
-    let labels = [0, 1, 2, 255, 256, add(label(e), 1), sub(label(e), 1)];
-    let neighbours = [0, sub(n, 1), n, 65535, add(e, 1), sub(e, 1)];
-    let words = [0, 65535, 4294967295, below(seed, 4294967296)];
-    let relabelled = entry(labels[below(seed, 7) % 7], e);
-    let moved = entry(label(e), neighbours[below(seed, 6) % 6]);
-    let some = [relabelled, moved, words[below(seed, 4) % 4]];
-    some[below(seed, 3) % 3]
+fn other_entry(e: usize, n: usize, random: &mut Random) -> usize {
+    let next = label(e).wrapping_add(1);
+    let last = label(e).wrapping_sub(1);
+    let any = random.below(4294967296);
+    let relabelled = entry(random.pick([0, 1, 2, 255, 256, next, last]), e);
+    let neighbours = [
+        0,
+        n.wrapping_sub(1),
+        n,
+        65535,
+        e.wrapping_add(1),
+        e.wrapping_sub(1),
+    ];
+    let moved = entry(label(e), random.pick(neighbours));
+    let some = random.pick([0, 65535, 4294967295, any]);
+    random.pick([relabelled, moved, some])
 }
 
 // An entry of the forward side and its mirror get the next label.
-fn next_label(s: &Words, l: Layout, v: usize, seed: &mut u64) -> Pair {
-    let from = list_at(s, l, l.forward, v);
-    let count = sub(list_at(s, l, l.forward, add(v, 1)), from);
-    let i = add(from, below(seed, count));
+fn next_label(s: &Words, l: Layout, v: usize, random: &mut Random) -> Damage {
+    let list = l.list(s, Side::Forward, v);
+    let count = list.end.wrapping_sub(list.start);
+    let i = list.start.wrapping_add(random.below(count));
     let e = word(s, i);
     let j = find_mirror(s, l, neighbour(e), entry(label(e), v));
     if count == 0 {
         return crossed(s, i, i);
     }
-    Pair {
-        i,
-        x: add(e, 65536),
-        j,
-        y: add(word(s, j), 65536),
+    Damage {
+        one: Put {
+            at: i,
+            word: e.wrapping_add(65536),
+        },
+        two: Put {
+            at: j,
+            word: word(s, j).wrapping_add(65536),
+        },
     }
 }
 
-// Where an entry is, from one index up to another; this one where it is not.
-fn find(s: &Words, from: usize, to: usize, e: usize) -> usize {
-    for i in from..to {
+// Where the backward list of a vertex has an entry; where the list ends, if it has it not.
+fn find_mirror(s: &Words, l: Layout, v: usize, e: usize) -> usize {
+    let list = l.list(s, Side::Backward, v);
+    let end = list.end;
+    for i in list {
         if word(s, i) == e {
             return i;
         }
     }
-    to
-}
-
-// Where the backward list of a vertex has an entry.
-fn find_mirror(s: &Words, l: Layout, v: usize, e: usize) -> usize {
-    let from = list_at(s, l, l.backward, v);
-    let to = list_at(s, l, l.backward, add(v, 1));
-    find(s, from, to, e)
+    end
 }
 
 // A label or a day, at its limit or above it.
-fn other_vertex(l: Layout, seed: &mut u64) -> Pair {
-    let words = [0, 65535, 65536, 4294967295];
-    let i = add(2, below(seed, sub(l.forward, 2)));
+fn other_vertex(l: Layout, random: &mut Random) -> Damage {
+    let i = random.below(l.forward.wrapping_sub(2)).wrapping_add(2);
     if l.vertices == 0 {
         return only(1, 0);
     }
-    only(i, words[below(seed, 4) % 4])
+    only(i, random.pick([0, 65535, 65536, 4294967295]))
 }
 
 // An offset one more or one less.
-fn other_offset(s: &Words, l: Layout, side: usize, seed: &mut u64) -> Pair {
-    let i = add(side, below(seed, add(l.vertices, 1)));
-    if chance(seed, 50) {
-        return only(i, add(word(s, i), 1));
+fn other_offset(s: &Words, l: Layout, side: Side, random: &mut Random) -> Damage {
+    let i = l.offset(side, random.below(l.vertices.wrapping_add(1)));
+    if random.chance(50) {
+        only(i, word(s, i).wrapping_add(1))
+    } else {
+        only(i, word(s, i).wrapping_sub(1))
     }
-    only(i, sub(word(s, i), 1))
 }
 
 // A count one more or one less, seldom anything.
-fn other_count(s: &Words, seed: &mut u64) -> Pair {
-    let i = below(seed, 2);
-    let counts = [add(word(s, i), 1), sub(word(s, i), 1), 1048576, 65536];
-    only(i, counts[below(seed, 4) % 4])
+fn other_count(s: &Words, random: &mut Random) -> Damage {
+    let i = random.below(2);
+    let more = word(s, i).wrapping_add(1);
+    let less = word(s, i).wrapping_sub(1);
+    only(i, random.pick([more, less, 1048576, 65536]))
 }
 
 // A side, the backward one more often.
-pub fn random_side(l: Layout, seed: &mut u64) -> usize {
-    if chance(seed, 40) {
-        return l.forward;
+fn random_side(random: &mut Random) -> Side {
+    if random.chance(40) {
+        Side::Forward
+    } else {
+        Side::Backward
     }
-    l.backward
 }
 
 // Damages the words of a side's entries.
-fn of_entries(s: &Words, l: Layout, side: usize, seed: &mut u64) -> Pair {
-    let from = entries(l, side);
-    let i = add(from, below(seed, l.edges));
-    let j = add(from, below(seed, l.edges));
+fn of_entries(s: &Words, l: Layout, side: Side, random: &mut Random) -> Damage {
+    let from = l.entries(side);
+    let i = from.wrapping_add(random.below(l.edges));
+    let j = from.wrapping_add(random.below(l.edges));
     if l.edges == 0 {
         return crossed(s, 0, 0);
     }
-    match below(seed, 4) {
+    match random.below(4) {
         0 => crossed(s, i, j),
-        1 => only(i, word(s, sub(i, 1))),
-        _ => only(i, other_entry(word(s, i), l.vertices, seed)),
-    }
-}
-
-// One of all damages.
-pub fn random(s: &Words, l: Layout, seed: &mut u64) -> Pair {
-    let side = random_side(l, seed);
-    let v = below(seed, l.vertices);
-    let hub = if chance(seed, 30) { 0 } else { v };
-    match below(seed, 12) {
-        0 => other_vertex(l, seed),
-        1 => other_offset(s, l, side, seed),
-        2 => other_count(s, seed),
-        3 | 4 | 5 => of_entries(s, l, side, seed),
-        6 | 7 => next_label(s, l, v, seed),
-        _ => in_list(s, l, side, hub, seed),
+        1 => only(i, word(s, i.wrapping_sub(1))),
+        _ => only(i, other_entry(word(s, i), l.vertices, random)),
     }
 }

@@ -10,53 +10,45 @@ mod model;
 mod stream;
 
 use crate::stream::*;
+use judge_inputs::random::Random;
 use judge_matcher::tally;
-use judge_matcher::tally::{Tally, print_counts};
+use judge_matcher::tally::Tally;
 use std::io;
 
 const SEED: u64 = 88172645463325252;
 
 fn print(tally: &Tally<impl Print>) -> io::Result<()> {
-    print_counts(
-        b"stores of up to 40 vertices: right, damaged and accepted, refused\n",
-        tally,
+    tally.print_counts(
+        "stores of up to 40 vertices: right, damaged and accepted, refused\n",
         SMALL,
         SMALL + 3,
     )?;
-    print_counts(
-        b"stores of 300 to 2,000 vertices, of 1 to 255 labels: right, damaged and accepted, refused\n",
-        tally,
+    tally.print_counts(
+        "stores of 300 to 2,000 vertices, of 1 to 255 labels: right, damaged and accepted, refused\n",
         MIDDLE,
         MIDDLE + 3,
     )?;
-    print_counts(
-        b"stores of 8,192 and 8,193 vertices: right, damaged and accepted, refused\n",
-        tally,
+    tally.print_counts(
+        "stores of 8,192 and 8,193 vertices: right, damaged and accepted, refused\n",
         LARGE,
         LARGE + 3,
     )?;
-    print_counts(
-        b"stores with lists of more than 65,535 entries: right, damaged and accepted, refused\n",
-        tally,
+    tally.print_counts(
+        "stores with lists of more than 65,535 entries: right, damaged and accepted, refused\n",
         LONG,
         LONG + 3,
     )?;
-    print_counts(
-        b"differed in all\n",
-        tally,
-        tally::DIFFERED,
-        tally::DIFFERED + 1,
-    )
+    tally.print_counts("differed in all\n", tally::DIFFERED, tally::DIFFERED + 1)
 }
 
 fn main(rt: HostRuntime) -> io::Result<()> {
-    let mut seed = SEED;
+    let mut random = Random::new(SEED);
     let mut tally = Tally::new(&rt);
-    rt.write_all(b"judge_stores\n")?;
-    judge_small(&mut seed, &mut tally);
-    judge_middle(&mut seed, &mut tally);
-    judge_large(&mut seed, &mut tally);
-    judge_long(&mut seed, &mut tally);
+    println!(rt; "judge_stores")?;
+    judge_small(&mut random, &mut tally);
+    judge_middle(&mut random, &mut tally);
+    judge_large(&mut random, &mut tally);
+    judge_long(&mut random, &mut tally);
     print(&tally)?;
     tally.written
 }
