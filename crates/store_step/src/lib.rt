@@ -96,7 +96,10 @@ fn matched(
     let limit = base + Graph::SPAN;
     let reverse = base + v;
     let mut last = base - 1;
-    for i in from..list.len() {
+    let mut i = from;
+    // Counted by hand: as a `for` each entry takes two instructions more, and the check of a sparse store more than
+    // the plain version that it is measured against.
+    while i < list.len() {
         let entry = list[i];
         if limit <= entry || entry <= last {
             return i;
@@ -111,8 +114,9 @@ fn matched(
         }
         cursors[x] = at as u32 + 1;
         last = entry;
+        i += 1;
     }
-    list.len()
+    i
 }
 
 // The entries of one label of a vertex, of which `done` tells how many are done: the label of its next entry,

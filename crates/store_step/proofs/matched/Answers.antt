@@ -1,8 +1,5 @@
 -- `store_step::matched` meets its contract: the entries up to i are matched, and `last` is the last of them. Assumes nothing.
-use mathlib.Core.Path.{◌≡◌, refl, subst}
-use Prim.Native.Nat.{ℕ}
-use lib.ListN.{length}
-use Rattle.store_step.specs.Inner.Walk.{Matched}
+use mathlib.Core.Path.{refl}
 use native.Mathlib.Omega.{arith}
 use Rattle.store_step.proofs.Matching.{matching-start, matching-next}
 use Rattle.store_step.proofs.matched.Goals as goal
@@ -24,6 +21,4 @@ loop-i-preserved c = matching-next c.loop-i.invariant (omega arith) (omega arith
     c.if-back-at-2.false
 
 pub returns : goal.returns
-returns c = let a = c.args in
-    subst (λ (k : ℕ). Matched a.n a.v a.base a.list.now a.back.now a.from k a.cursors.now c.loop-i.cursors)
-    (let e : c.loop-i.i ≡ length a.list.now = omega (arith, c.loop-i.invariant.so_far.inside) in e) c.loop-i.invariant.so_far
+returns c = c.loop-i.invariant.so_far
