@@ -25,7 +25,9 @@ use Rattle.plan.specs.declared.Plan.{Plan as PlanStruct}
 use Rattle.rows.proofs.Laid.{wide, length-flatten}
 use Rattle.run_spec.specs.Run.{plan_cost}
 use Rattle.executor.specs.declared.counting.Tally.{Tally}
-use Rattle.executor.specs.Inner.Tallied.{count_fault, Tallied}
+use Rattle.executor.specs.Inner.Tallied.{count_fault, fault_in, Tallied}
+use Rattle.std.specs.Prelude.{Result, Ok}
+use Rattle.refusals.specs.declared.Refusal.{Refusal}
 use Rattle.executor.specs.Inner.Running.{Runs}
 use Rattle.plan_spectrum.specs.Orders.{orderings, plan_of}
 use Rattle.plan_spectrum.specs.Spectrum.{cost_of, limit_fault}
@@ -140,11 +142,11 @@ module _ (store : List ℕ) (d : QueryStruct) (list : List ℕ) (plans : ℕ) (w
             short = omega (arith, t.work_kept, lie.short);
           }
 
-      module _ (r : Tally) (a : Tallied true g q (operators_in p) (length work) r) where
-        fault-is : r.refusal ≡ limit_fault g q (length work₀) (get_or orders k [])
+      module _ (r : Result Tally Refusal) (a : Tallied true g q (operators_in p) (length work) r) where
+        fault-is : fault_in r ≡ limit_fault g q (length work₀) (get_or orders k [])
         fault-is = a.refusal ∙ ap₂ (λ (os : List Operator) (n : ℕ). count_fault true g q os n) plan-is t.work_kept
 
-        pub priced-refused : (r.refusal ≡ 0 → ⊥) → AllRun g q (length work₀) costs r.refusal
+        pub priced-refused : (fault_in r ≡ 0 → ⊥) → AllRun g q (length work₀) costs (fault_in r)
         priced-refused bad =
             record {
               refusal =
@@ -156,24 +158,24 @@ module _ (store : List ℕ) (d : QueryStruct) (list : List ℕ) (plans : ℕ) (w
               costs = λ z. absurd (bad z);
             }
 
-        pub priced-more : r.refusal ≡ 0 → k < length costs → (after : List ℕ) → length after ≡ length work → Priced g q work₀ after costs₀ (set costs k r.cost) (k + 1)
-        priced-more fine room after same =
+        pub priced-more : (tally : Tally) → r ≡ Ok tally → k < length costs → (after : List ℕ) → length after ≡ length work → Priced g q work₀ after costs₀ (set costs k tally.cost) (k + 1)
+        priced-more tally is room after same =
             rw (add-one k)
             (record {
               small = omega (arith, below);
               work_kept = same ∙ t.work_kept;
-              costs_kept = length-set costs k r.cost ∙ t.costs_kept;
+              costs_kept = length-set costs k tally.cost ∙ t.costs_kept;
               quiet =
                   ap (λ (l : List (List ℕ)). first (map (limit_fault g q (length work₀)) l)) (take-suc orders k [] below)
                   ∙ ap first (map-append (limit_fault g q (length work₀)) (take k orders) (get_or orders k [] ∷ []))
                   ∙ first-append (map (limit_fault g q (length work₀)) (take k orders)) _ t.quiet
-                  ∙ first_one _ ∙ sym fault-is ∙ fine;
+                  ∙ first_one _ ∙ sym fault-is ∙ ap fault_in is;
               paid =
-                  take-suc-set costs k r.cost room
+                  take-suc-set costs k tally.cost room
                   ∙ ap₂ (λ (l : List ℕ) (x : ℕ). l ++ (x ∷ [])) t.paid cost_is
                   ∙ sym (map-append (cost_of g q) (take k orders) (get_or orders k [] ∷ []))
                   ∙ ap (map (cost_of g q)) (sym (take-suc orders k [] below));
             })
           where
-            cost_is : r.cost ≡ cost_of g q (get_or orders k [])
-            cost_is = a.cost ∙ ap (λ (z : ℕ). answered z (plan_cost true g q (operators_in p))) fine ∙ ap (plan_cost true g q) plan-is
+            cost_is : tally.cost ≡ cost_of g q (get_or orders k [])
+            cost_is = (a.counts tally is).cost ∙ ap (plan_cost true g q) plan-is

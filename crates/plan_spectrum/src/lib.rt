@@ -14,7 +14,7 @@ ghost use Rattle.plan.specs.Plan.{max_operators};
 ghost use Rattle.plan.specs.Inner.Struct.{operators_in};
 ghost use Rattle.operator_spec.specs.Limit.{max_words};
 ghost use Rattle.run_spec.specs.Run.{run_scratch};
-ghost use Rattle.refusals.specs.Refusals.{fault_of};
+ghost use Rattle.refusals.specs.Refusals.{number, fault_of};
 ghost use Rattle.plan_spectrum.specs.Orders.{plan_of};
 ghost use Rattle.plan_spectrum.specs.Spectrum.{orderings_answer, orderings_words};
 ghost use Rattle.plan_spectrum.specs.Claims.{EveryOrderingListed};
@@ -46,10 +46,13 @@ impl OrderingsAnswer {
     // The scan's index and at most three vertices of each.
     const MAX_NUMBERS: usize = 576;
 
-    fn refused(refusal: u32) -> Self
-        ensures { result ≡ record { refusal = refusal; plans = 0 } }
+    fn refused(refusal: Refusal) -> Self
+        ensures { result ≡ record { refusal = number refusal; plans = 0 } }
     {
-        OrderingsAnswer { refusal, plans: 0 }
+        OrderingsAnswer {
+            refusal: refusal.number(),
+            plans: 0,
+        }
     }
 }
 
@@ -74,21 +77,18 @@ fn run_orderings(
     plans: usize,
     work: &mut [u32],
     costs: &mut [u64],
-) -> u32
+) -> Result<(), Refusal>
     requires { Lie store.now q list.now plans work.old costs.old }
     ensures { AllRun (graph_in store.now) (query_in q) (length work.old)
-        costs.new result }
+        costs.new (fault_of result) }
 {
     let width = q.vertices - 1;
     for k in 0..plans {
         let plan = plan_at(list, k * width, width);
-        let tally = count_run(store, q, plan, true, work);
-        if tally.refusal != 0 {
-            return tally.refusal;
-        }
+        let tally = count_run(store, q, plan, true, work)?;
         costs[k] = tally.cost;
     }
-    0
+    Ok(())
 }
 
 // All orderings of a query that was read over an accepted store: 32, 20, 30, or the entries.
@@ -100,15 +100,16 @@ fn write_orderings(store: &[u32], q: Query, work: &mut [u32], words: &mut [u32])
     let mut list = [0u32; OrderingsAnswer::MAX_NUMBERS];
     let plans = listing::list_orderings(q, &mut list);
     if words.len() < plans * (q.vertices + 1) {
-        return OrderingsAnswer::refused(Refusal::OrderingsWords.number());
+        return OrderingsAnswer::refused(Refusal::OrderingsWords);
     }
     let mut costs = [0u64; OrderingsAnswer::MAX_PLANS];
-    let limit = run_orderings(store, q, &list, plans, work, &mut costs);
-    if limit != 0 {
-        return OrderingsAnswer::refused(limit);
+    match run_orderings(store, q, &list, plans, work, &mut costs) {
+        Err(limit) => OrderingsAnswer::refused(limit),
+        Ok(()) => {
+            writing::write_entries(q.vertices - 1, plans, &list, &costs, words);
+            OrderingsAnswer { refusal: 0, plans }
+        }
     }
-    writing::write_entries(q.vertices - 1, plans, &list, &costs, words);
-    OrderingsAnswer { refusal: 0, plans }
 }
 
 // Refuses a query that is not accepted, then one of more vertices than are taken, then a store to which no
@@ -137,7 +138,7 @@ fn orderings_counted(
         (length work.old) words.old) }
 {
     match check_orderings(store, query) {
-        Err(refusal) => OrderingsAnswer::refused(refusal.number()),
+        Err(refusal) => OrderingsAnswer::refused(refusal),
         Ok(()) => write_orderings(store, query_file::query_of(query), work, words),
     }
 }

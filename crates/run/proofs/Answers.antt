@@ -21,10 +21,13 @@ use Rattle.run_spec.specs.Run.{counted, plan_records, run_fault, run_answer, run
 use Rattle.run_spec.specs.Complete.{ListsEveryMatch}
 use Rattle.run_spec.proofs.Records.{count-records}
 use Rattle.run_spec.proofs.Demand.{run-lists-every-match}
-use Rattle.executor.specs.Inner.Answered.{room_fault, records_at, Records, Answered}
+use Rattle.executor.specs.Inner.Answered.{room_fault, records_at, recorded_of, Records, Answered}
 use Rattle.run.specs.Inner.Settled.{Settles, records_fault, early_fault}
 use Rattle.records.specs.declared.Recorded.{Recorded}
 use Rattle.executor.proofs.Answers.{refused_with, no-records}
+use Rattle.std.specs.Prelude.{Err}
+use Rattle.refusals.specs.declared.Refusal.{Refusal}
+use Rattle.refusals.specs.Refusals.{number}
 
 -- The refusals of plan and records.
 module _ (query plan : List ℕ) (lent : ℕ) where
@@ -114,18 +117,18 @@ module _ (cache : Bool) (store query plan : List ℕ) (scratch : ℕ) (list : Li
         same-refusal : r.answer.refusal ≡ fault
         same-refusal = a.refusal ∙ sym fault-lengths
 
-        number : (f : RunAnswer → ℕ) (n : ℕ) → f r.answer ≡ answered r.answer.refusal n → f r.answer ≡ answered fault n
-        number f n e = e ∙ ap (λ (k : ℕ). answered k n) same-refusal
+        same_number : (f : RunAnswer → ℕ) (n : ℕ) → f r.answer ≡ answered r.answer.refusal n → f r.answer ≡ answered fault n
+        same_number f n e = e ∙ ap (λ (k : ℕ). answered k n) same-refusal
 
         answer : r.answer ≡ run_answer cache store query plan scratch (length list) lent
         unfolding run_answer
         answer =
             λ i. record {
               refusal = same-refusal i;
-              rows = number (λ (x : RunAnswer). x.rows) _ a.rows i;
-              cost = number (λ (x : RunAnswer). x.cost) _ a.cost i;
-              build = number (λ (x : RunAnswer). x.build) _ a.build i;
-              probe = number (λ (x : RunAnswer). x.probe) _ a.probe i;
+              rows = same_number (λ (x : RunAnswer). x.rows) _ a.rows i;
+              cost = same_number (λ (x : RunAnswer). x.cost) _ a.cost i;
+              build = same_number (λ (x : RunAnswer). x.build) _ a.build i;
+              probe = same_number (λ (x : RunAnswer). x.probe) _ a.probe i;
             }
 
         listed : after ≡ run_list cache store query plan scratch list lent
@@ -145,6 +148,18 @@ module _ (cache : Bool) (store query plan : List ℕ) (scratch : ℕ) (list : Li
               records = rw (← same-refusal) a.records;
               fits = fits (eqb r.answer.refusal 0) a.records;
             }
+
+-- What is answered and recorded for a refusal.
+pub settles-refused : (cache : Bool) (store query plan : List ℕ) (scratch : ℕ) (list after : List ℕ) (lent : ℕ) (e : Refusal) (r : Recorded)
+    → Settles cache store query plan scratch list after lent (recorded_of (Err e)) → r.answer ≡ refused_with (number e) → r.operators ≡ 0
+    → Settles cache store query plan scratch list after lent r
+settles-refused cache store query plan scratch list after lent e r h a none =
+    record {
+      answer = a ∙ h.answer;
+      list = h.list;
+      records = record { number = none ∙ h.records.number; few = omega (arith, none); are = rw none h.records.are };
+      fits = omega (arith, none);
+    }
 
 -- A scratch counts as its counted length.
 counted-twice : (n : ℕ) → counted (counted n) ≡ counted n

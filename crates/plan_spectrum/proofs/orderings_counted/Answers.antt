@@ -17,7 +17,7 @@ use Rattle.plan_spectrum.proofs.orderings_counted.Goals as goal
 
 pub returns-in-Err : goal.returns-in-Err
 returns-in-Err c = let a = c.args in
-    rw (c.refused.ensures, c.number.ensures)
+    rw c.refused.ensures
     (done-early a.store.now a.query.now (length a.work.now) a.words.now _ c.in-Err.ensures (numbered c.in-Err.refusal))
 
 pub query_of-requires : goal.query_of-requires
