@@ -42,13 +42,6 @@ pub fn check_plan_file(query: &[u8], plan: &[u8]) -> Result<(), Refusal>
     rules::check_rules(q, plan_of(plan))
 }
 
-// The number of that refusal, or 0.
-pub fn check_fault(query: &[u8], plan: &[u8]) -> u32
-    ensures { result ≡ check_fault query.now plan.now }
-{
-    refusals::fault(check_plan_file(query, plan))
-}
-
 // Check plan.
 pub fn check_plan(query: &[u8], plan: &[u8]) -> CheckedPlan
     ensures { result ≡ check_answer query.now plan.now }

@@ -147,13 +147,6 @@ pub fn check_query(file: &[u8]) -> Result<(), Refusal>
     query_of(file).check_connected()
 }
 
-// The number of that refusal, or 0.
-pub fn query_fault(file: &[u8]) -> u32
-    ensures { result ≡ query_fault file.now }
-{
-    refusals::fault(check_query(file))
-}
-
 // Read query.
 pub fn read_query(file: &[u8]) -> ReadQuery
     ensures { result ≡ read_answer file.now }

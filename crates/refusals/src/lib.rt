@@ -5,7 +5,7 @@
 #![tactic(auto)]
 
 ghost use Rattle.std.specs.Prelude.{◌≡◌};
-ghost use Rattle.refusals.specs.Refusals.{number, fault_of};
+ghost use Rattle.refusals.specs.Refusals.{number};
 
 #[derive(Clone, Copy, PartialEq, Eq)]
 pub enum Refusal {
@@ -154,84 +154,4 @@ impl Refusal {
             Refusal::SheetBytes => 35,
         }
     }
-}
-
-// The number of an outcome's refusal, 0 where nothing is refused.
-pub fn fault(outcome: Result<(), Refusal>) -> u32
-    ensures { result ≡ fault_of outcome }
-{
-    match outcome {
-        Ok(()) => 0,
-        Err(refusal) => refusal.number(),
-    }
-}
-
-impl Refusal {
-    pub const GRAPH_SHORT: u32 = 1;
-
-    pub const GRAPH_LONG: u32 = 2;
-
-    pub const GRAPH_EDGE: u32 = 3;
-
-    pub const GRAPH_ORDER: u32 = 4;
-
-    pub const STORE_SMALL: u32 = 5;
-
-    pub const QUERY_SHORT: u32 = 6;
-
-    pub const QUERY_LONG: u32 = 7;
-
-    pub const QUERY_LIMITS: u32 = 8;
-
-    pub const QUERY_EDGE: u32 = 9;
-
-    pub const QUERY_ORDER: u32 = 10;
-
-    pub const QUERY_APART: u32 = 11;
-
-    pub const PLAN_SHORT: u32 = 12;
-
-    pub const PLAN_LONG: u32 = 13;
-
-    pub const PLAN_OPERATOR: u32 = 14;
-
-    pub const PLAN_PILE: u32 = 15;
-
-    pub const PLAN_EXTEND: u32 = 16;
-
-    pub const PLAN_JOIN: u32 = 17;
-
-    pub const PLAN_UNCOVERED: u32 = 18;
-
-    pub const STORE_DAMAGED: u32 = 19;
-
-    pub const SCRATCH_SMALL: u32 = 20;
-
-    pub const LIST_SMALL: u32 = 21;
-
-    pub const RECORDS_SHORT: u32 = 22;
-
-    pub const PLAN_BYTES: u32 = 24;
-
-    pub const QUERY_DAYS: u32 = 25;
-
-    pub const QUERY_PAIR: u32 = 26;
-
-    pub const CHANGES_FILE: u32 = 27;
-
-    pub const CHANGES_EDGE: u32 = 28;
-
-    pub const CHANGES_MANY: u32 = 29;
-
-    pub const RUN_NUMBERS: u32 = 30;
-
-    pub const ORDERINGS_LARGE: u32 = 31;
-
-    pub const ORDERINGS_WORDS: u32 = 32;
-
-    pub const SHEET_ROWS: u32 = 33;
-
-    pub const SHEET_PAGE: u32 = 34;
-
-    pub const SHEET_BYTES: u32 = 35;
 }
