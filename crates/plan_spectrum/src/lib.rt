@@ -30,7 +30,7 @@ use words::{clear_used, copy};
 // What All orderings answers: a refusal with 0, or 0 with the number of plans.
 #[derive(Drop)]
 pub struct OrderingsAnswer {
-    // 0 where every ordering is listed.
+    // 0 where every ordering is listed. A number, as the definition `orderings_answer` gives it.
     pub refusal: u32,
     // How many there are.
     pub plans: usize,
