@@ -98,6 +98,7 @@ fn merge_list(
     let mut i = 0;
     let mut len = 0;
     let mut e = next(file, keys, k, v, from);
+    // Two lists at once: the next word of either is gone on to.
     while e < Graph::ENTRY_END {
         let x = word(list, i);
         if x < e {
@@ -191,6 +192,7 @@ pub fn merge_side(
     let mut next = 0;
     let mut len = 0;
     let mut v = 0;
+    // The loop goes on at the next vertex that has a change.
     while next < k {
         let u = vertex_at(file, keys, next);
         len += copy_lists(old, n, at, v, u, len, side);

@@ -143,6 +143,7 @@ fn blocks_reversed(
 {
     let mut next = 0;
     let mut base = 0;
+    // The loop goes on at the next block.
     while base < entries.len() {
         lists_begun(starts, next, base, begun);
         if !block_reversed(store, n, other, block(entries, base), begun, hints) {

@@ -97,8 +97,6 @@ fn matched(
     let reverse = base + v;
     let mut last = base - 1;
     let mut i = from;
-    // Counted by hand: as a `for` each entry takes two instructions more, and the check of a sparse store more than
-    // the plain version that it is measured against.
     while i < list.len() {
         let entry = list[i];
         if limit <= entry || entry <= last {

@@ -93,6 +93,7 @@ fn word_pass(
         cursors.new done.new (base + 64 * i + 64)) }
 {
     let mut w = word;
+    // The lowest bit is taken off.
     while 0 < w {
         let v = i * WORD + lowest(w) as usize;
         if n <= v {
