@@ -64,5 +64,7 @@ pub fn move_down(part: &mut [u32], from: usize, count: usize)
     ensures { part.new ≡ take count (drop from part.old)
         ++ drop count part.old }
 {
-    part.copy_within(from..from + count, 0);
+    for i in 0..count {
+        part[i] = part[from + i];
+    }
 }
