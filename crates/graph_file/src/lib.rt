@@ -10,20 +10,20 @@ ghost use Rattle.graph.specs.File.{vertex_count, edge_count, file_size, edge_in,
 ghost use Rattle.graph.specs.Store.{load_fault};
 ghost use Rattle.graph_file.specs.Inner.Reading.{Whole, vertex_field, edge_with, graph_length_fault};
 ghost use Rattle.graph_file.specs.Inner.Reading.{graph_edges_fault};
-ghost use Rattle.refusals.specs.Refusals.{fault_of};
+ghost use Rattle.refusals.specs.Inner.Refusals.{fault_of};
 
 use graph::Graph;
 use packed::field;
 use refusals::Refusal;
 
-fn vertex_count(file: &[u8]) -> usize
+pub fn vertex_count(file: &[u8]) -> usize
     requires { 5 ≤ length file.now }
     ensures { (result ≡ vertex_count file.now) × (result < suc max_graph_vertices) }
 {
     field(file, 0, 16) as usize
 }
 
-fn edge_count(file: &[u8]) -> usize
+pub fn edge_count(file: &[u8]) -> usize
     requires { 5 ≤ length file.now }
     ensures { (result ≡ edge_count file.now) × (result < suc max_graph_edges) }
 {

@@ -63,12 +63,27 @@ fn read_all(file: &mut impl Read, buffer: &mut [u8]) -> io::Result<usize>
     Ok(done)
 }
 
-// Reads a file. One that is missing or can't be read to its end has no bytes.
-fn read<'a>(rt: &impl Files, name: &'static str, buffer: &'a mut [u8]) -> Result<&'a [u8], Stop> {
-    let bytes = match File::open(rt, name) {
-        Ok(mut file) => read_all(&mut file, buffer).unwrap_or(0),
+// Reads a file as far as the buffer goes and answers how many bytes came; 0 where the file is missing or
+// can't be read to its end.
+fn read(rt: &impl Files, name: &str, buffer: &mut [u8]) -> usize
+    ensures { IsPrefixLen result buffer.new }
+{
+    match File::open(rt, name) {
+        Ok(mut file) => match read_all(&mut file, buffer) {
+            Ok(bytes) => bytes,
+            Err(_) => 0,
+        },
         Err(_) => 0,
-    };
+    }
+}
+
+// The bytes of a file, of which one more than are taken tells that it is too long.
+fn bytes_of<'a>(
+    rt: &impl Files,
+    name: &'static str,
+    buffer: &'a mut [u8],
+) -> Result<&'a [u8], Stop> {
+    let bytes = read(rt, name, buffer);
     if MAX_BYTES < bytes {
         return Err(Stop::Long(name));
     }
@@ -98,9 +113,9 @@ fn trace(rt: &impl Files, list: &mut [u32]) -> Result<Traced, Stop> {
     let mut g = [0u8; BUFFER_BYTES];
     let mut q = [0u8; BUFFER_BYTES];
     let mut p = [0u8; BUFFER_BYTES];
-    let graph = read(rt, "g.bin", &mut g)?;
-    let query = read(rt, "q.bin", &mut q)?;
-    let plan = read(rt, "p.bin", &mut p)?;
+    let graph = bytes_of(rt, "g.bin", &mut g)?;
+    let query = bytes_of(rt, "q.bin", &mut q)?;
+    let plan = bytes_of(rt, "p.bin", &mut p)?;
     let mut store = [0u32; STORE_WORDS];
     let loaded = load::load(graph, &mut store);
     if loaded.refusal != 0 {
