@@ -9,7 +9,7 @@ ghost use Rattle.lists.specs.Refusal.{refuse};
 ghost use Rattle.graph.specs.Graph.{max_graph_vertices, max_graph_edges, entry_end, forward, entry, key};
 ghost use Rattle.change_file.specs.File.{change_count, adds_in, changed_edge, change_fits, change_fault};
 ghost use Rattle.change_file.specs.Inner.Reading.{Sized, change_length_fault};
-ghost use Rattle.refusals.specs.Refusals.{fault_of};
+ghost use Rattle.refusals.specs.Inner.Refusals.{fault_of};
 
 use graph::Graph;
 use packed::field;

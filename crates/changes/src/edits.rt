@@ -7,7 +7,7 @@ ghost use Rattle.change_file.specs.File.{change_count, adds_in, changes_of};
 ghost use Rattle.changes.specs.Edit.{edit_fault};
 ghost use Rattle.change_file.specs.Inner.Reading.{Sized};
 ghost use Rattle.changes.specs.Inner.Edits.{Editable};
-ghost use Rattle.refusals.specs.Refusals.{fault_of};
+ghost use Rattle.refusals.specs.Inner.Refusals.{fault_of};
 
 use adjacency::neighbours;
 use refusals::Refusal;

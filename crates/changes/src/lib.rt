@@ -9,7 +9,7 @@ ghost use Rattle.graph.specs.Graph.{max_graph_edges};
 ghost use Rattle.change_file.specs.File.{change_count, adds_in};
 ghost use Rattle.changes.specs.Edit.{apply_fault, apply_answer, changed_store};
 ghost use Rattle.change_file.specs.Inner.Reading.{Sized};
-ghost use Rattle.refusals.specs.Refusals.{fault_of};
+ghost use Rattle.refusals.specs.Inner.Refusals.{fault_of};
 
 use graph::Graph;
 use load::Loaded;

@@ -9,7 +9,7 @@ mod longest;
 mod pile;
 
 ghost use Rattle.std.specs.Prelude.{◌≡◌};
-ghost use Rattle.refusals.specs.Refusals.{number, fault_of};
+ghost use Rattle.refusals.specs.Inner.Refusals.{number, fault_of};
 ghost use Rattle.plan_bounds.specs.Answer.{bounds_fault, bounds_answer};
 
 use refusals::Refusal;

@@ -1,7 +1,7 @@
 // The plan file: the operator count (5 bits), then each operator's kind (2) and operand (5, 3 or 0 by its
 // kind).
 ghost use Rattle.std.specs.Prelude.{◌≡◌, ◌+◌, ◌^◌, ◌≤◌, ◌<◌, length};
-ghost use Rattle.refusals.specs.Refusals.{fault_of};
+ghost use Rattle.refusals.specs.Inner.Refusals.{fault_of};
 ghost use Rattle.lists.specs.Refusal.{first};
 ghost use Rattle.packed.specs.Field.{bits_in, bytes_for};
 ghost use Rattle.plan.specs.File.{operator_count, kind_at, operand_bits, operand_at, operator_fault};

@@ -4,7 +4,7 @@
 #![tactic(auto)]
 
 ghost use Rattle.std.specs.Prelude.{◌≡◌, ◌≤◌};
-ghost use Rattle.refusals.specs.Refusals.{fault_of};
+ghost use Rattle.refusals.specs.Inner.Refusals.{fault_of};
 ghost use Rattle.packed.specs.Field.{bits_in};
 ghost use Rattle.plan.specs.File.{operator_count, place, check_fault, check_answer};
 ghost use Rattle.plan.specs.Inner.Struct.{plan_struct};

@@ -14,7 +14,7 @@ ghost use Rattle.plan.specs.Plan.{max_operators};
 ghost use Rattle.plan.specs.Inner.Struct.{operators_in};
 ghost use Rattle.operator_spec.specs.Limit.{max_words};
 ghost use Rattle.run_spec.specs.Run.{run_scratch};
-ghost use Rattle.refusals.specs.Refusals.{number, fault_of};
+ghost use Rattle.refusals.specs.Inner.Refusals.{number, fault_of};
 ghost use Rattle.plan_spectrum.specs.Orders.{plan_of};
 ghost use Rattle.plan_spectrum.specs.Spectrum.{orderings_answer, orderings_words};
 ghost use Rattle.plan_spectrum.specs.Claims.{EveryOrderingListed};

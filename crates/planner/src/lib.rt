@@ -6,7 +6,7 @@
 mod pack;
 
 ghost use Rattle.std.specs.Prelude.{◌≡◌, [], ◌∷◌, length};
-ghost use Rattle.refusals.specs.Refusals.{number, fault_of};
+ghost use Rattle.refusals.specs.Inner.Refusals.{number, fault_of};
 ghost use Rattle.lists.specs.Refusal.{first};
 ghost use Rattle.graph.specs.Store.{graph_in, store_fault};
 ghost use Rattle.query.specs.File.{query_fault};

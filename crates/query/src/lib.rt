@@ -6,7 +6,7 @@
 
 ghost use Rattle.std.specs.Prelude.{◌≡◌, not, ◌&&◌, map, ℕ, ◌≤◌, ◌<◌, eqb, get_or};
 ghost use Rattle.lists.specs.Lists.{range, any};
-ghost use Rattle.refusals.specs.Refusals.{fault_of};
+ghost use Rattle.refusals.specs.Inner.Refusals.{fault_of};
 ghost use Rattle.lists.specs.Refusal.{refuse};
 ghost use Rattle.graph.specs.Graph.{max_day};
 ghost use Rattle.query.specs.Query.{Pair, edge_at, paired, among, between, reached, connected};

@@ -1,7 +1,7 @@
 // The tests of a query file but the last, whether its query is connected: one function for each part of the
 // file.
 ghost use Rattle.std.specs.Prelude.{◌≡◌, ◌+◌, ◌*◌, ◌^◌, ◌≤◌, ◌<◌};
-ghost use Rattle.refusals.specs.Refusals.{fault_of};
+ghost use Rattle.refusals.specs.Inner.Refusals.{fault_of};
 ghost use Rattle.packed.specs.Field.{bits_in};
 ghost use Rattle.query.specs.File.{pair_count, vertex_start, edge_start, pair_start, key, pair_key};
 ghost use Rattle.query_file.specs.Inner.Parts.{limits_fault, size_fault, sizes_fault, edge_from, pair_from};

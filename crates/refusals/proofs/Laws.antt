@@ -4,7 +4,7 @@ use Rattle.std.specs.Prelude.{◌≡◌, ℕ, Result, Err}
 use native.Mathlib.Omega.{arith}
 use Rattle.refusals.specs.declared.Refusal.{Refusal}
 use Rattle.refusals.specs.declared.Refusal.TheVariants.{GraphShort, GraphLong, GraphEdge, GraphOrder, StoreSmall, QueryShort, QueryLong, QueryLimits, QueryEdge, QueryOrder, QueryApart, PlanShort, PlanLong, PlanOperator, PlanPile, PlanExtend, PlanJoin, PlanUncovered, StoreDamaged, ScratchSmall, ListSmall, RecordsShort, PlanBytes, QueryDays, QueryPair, ChangesFile, ChangesEdge, ChangesMany, RunNumbers, OrderingsLarge, OrderingsWords, SheetRows, SheetPage, SheetBytes}
-use Rattle.refusals.specs.Refusals.{number, fault_of}
+use Rattle.refusals.specs.Inner.Refusals.{number, fault_of}
 
 -- 0 is the number of no refusal.
 pub numbered : (refusal : Refusal) → number refusal ≡ 0 → ⊥

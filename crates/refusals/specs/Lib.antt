@@ -1,2 +1,2 @@
--- The refusals and their numbers.
-pub mod Refusals
+-- No public contract cites a definition of this crate: the operations answer the number itself.
+pub mod Inner

@@ -5,7 +5,7 @@
 #![tactic(auto)]
 
 ghost use Rattle.std.specs.Prelude.{◌≡◌};
-ghost use Rattle.refusals.specs.Refusals.{number};
+ghost use Rattle.refusals.specs.Inner.Refusals.{number};
 
 #[derive(Clone, Copy, PartialEq, Eq)]
 pub enum Refusal {

@@ -27,7 +27,7 @@ use Rattle.records.specs.declared.Recorded.{Recorded}
 use Rattle.executor.proofs.Answers.{refused_with, no-records}
 use Rattle.std.specs.Prelude.{Err}
 use Rattle.refusals.specs.declared.Refusal.{Refusal}
-use Rattle.refusals.specs.Refusals.{number}
+use Rattle.refusals.specs.Inner.Refusals.{number}
 
 -- The refusals of plan and records.
 module _ (query plan : List ℕ) (lent : ℕ) where

@@ -9,7 +9,7 @@ mod number;
 
 ghost use Rattle.std.specs.Prelude.{◌≡◌, ◌++◌, ◌≤◌, length, drop};
 ghost use Rattle.lists.specs.Refusal.{refuse};
-ghost use Rattle.refusals.specs.Refusals.{number, fault_of};
+ghost use Rattle.refusals.specs.Inner.Refusals.{number, fault_of};
 ghost use Rattle.sheet.specs.Page.{page_size, max_rows, page_count, bad_rows, page_fault};
 ghost use Rattle.sheet.specs.Page.{page_text, page_answer, page_bytes};
 ghost use Rattle.sheet.specs.Claims.{SheetsHoldEveryRow};
