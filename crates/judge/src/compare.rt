@@ -4,7 +4,7 @@ use crate::runs;
 use judge_inputs::graphs::Graph;
 use judge_matcher::files::operators;
 use judge_matcher::lent::*;
-use judge_matcher::slices::first;
+use judge_matcher::slices::same_words;
 use judge_matcher::tally::*;
 use judge_matcher::ticks::*;
 use run::RunAnswer;
@@ -32,7 +32,7 @@ fn judge_again(
     let b = runs::run(store, files, with, &mut list, tally);
     let counts = a.rows == b.rows && a.build == b.build && a.probe == b.probe;
     let cost = b.cost <= a.cost && (with.cache || a.cost == b.cost);
-    let rows = first(before, with.list) == first(&list, with.list);
+    let rows = same_words(before, &list, with.list);
     let same = b.refusal == 0 && counts && cost && rows;
     let refused = b.refusal != 0 && Some(b.refusal) == refusal;
     let saved = kind == CACHE && b.cost < a.cost;

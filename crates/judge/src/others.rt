@@ -59,7 +59,7 @@ fn same_draw(one: &[u32], two: &[u32], query: &[u8], room: usize) -> bool {
     let mut plan_two = [9u8; FILE_BYTES];
     let a = planner::draw_plan(one, query, first_mut(&mut plan, room));
     let b = planner::draw_plan(two, query, first_mut(&mut plan_two, room));
-    a.refusal == b.refusal && a.bytes == b.bytes && plan == plan_two
+    a.refusal == b.refusal && a.bytes == b.bytes && same_bytes(&plan, &plan_two)
 }
 
 // With the cache off and on, in too few words of scratch or list or too few records, and in few bytes.

@@ -17,15 +17,15 @@ pub const WIDE: usize = 20;
 
 pub fn print(tally: &Tally<impl Print>) -> io::Result<()> {
     tally.print_counts(
-        "compared: bounds against the model, over other edges of labels that the query does not name, refusals in order\n",
+        b"compared: bounds against the model, over other edges of labels that the query does not name, refusals in order\n",
         BOUNDS,
         ORDER + 1,
     )?;
-    tally.print_counts("compared: refused with zeros\n", REFUSED, REFUSED + 1)?;
-    tally.print_counts("differed in all\n", DIFFERED, DIFFERED + 1)?;
-    tally.print_counts("graphs, queries\n", GRAPHS, QUERIES + 1)?;
+    tally.print_counts(b"compared: refused with zeros\n", REFUSED, REFUSED + 1)?;
+    tally.print_counts(b"differed in all\n", DIFFERED, DIFFERED + 1)?;
+    tally.print_counts(b"graphs, queries\n", GRAPHS, QUERIES + 1)?;
     tally.print_counts(
-        "list words, scratch words, costs and largest rows too large for 64 bits, of plans over dense graphs\n",
+        b"list words, scratch words, costs and largest rows too large for 64 bits, of plans over dense graphs\n",
         PASSED,
         WIDE + 1,
     )

@@ -1,5 +1,13 @@
 // Packed fields, the most significant bit first. A bit outside a file is written nowhere, and reads as 0.
 
+pub fn add(a: usize, b: usize) -> usize {
+    a.wrapping_add(b)
+}
+
+pub fn sub(a: usize, b: usize) -> usize {
+    a.wrapping_sub(b)
+}
+
 // Turns bit i of a file over, if `bit` is 1.
 pub fn flip(file: &mut [u8], i: usize, bit: u8) {
     if let Some(byte) = file.get_mut(i / 8) {
@@ -7,24 +15,26 @@ pub fn flip(file: &mut [u8], i: usize, bit: u8) {
     }
 }
 
-// Puts a field into a file whose bits there are 0, or turns over those that are 1 in it.
-pub fn put_field(file: &mut [u8], at: usize, width: usize, value: usize) {
+// Puts a field into a file whose bits there are 0, or turns over those that are 1 in it; answers the bit
+// position after it.
+pub fn put_field(file: &mut [u8], at: usize, width: usize, value: usize) -> usize {
     let mut rest = value;
     for i in (0..width).rev() {
-        flip(file, at.wrapping_add(i), (rest % 2) as u8);
+        flip(file, add(at, i), (rest % 2) as u8);
         rest /= 2;
     }
+    add(at, width)
 }
 
 // Bit i of a file.
-fn bit(file: &[u8], i: usize) -> usize {
+pub fn bit(file: &[u8], i: usize) -> usize {
     let byte = file.get(i / 8).copied().unwrap_or(0);
     ((byte >> (7 - i % 8)) % 2) as usize
 }
 
 // The bytes that so many bits take.
 pub fn bytes_for(bits: usize) -> usize {
-    bits.wrapping_add(7) / 8
+    add(bits, 7) / 8
 }
 
 // Writes a file of zeros field after field.
@@ -42,8 +52,7 @@ impl<'a> Writer<'a> {
     }
 
     pub fn put(&mut self, width: usize, value: usize) {
-        put_field(self.file, self.at, width, value);
-        self.at = self.at.wrapping_add(width);
+        self.at = put_field(self.file, self.at, width, value);
     }
 
     // The bytes up to here.
@@ -69,7 +78,7 @@ impl<'a> Reader<'a> {
         let mut value = 0;
         for _ in 0..width {
             value = value << 1 | bit(self.file, self.at);
-            self.at = self.at.wrapping_add(1);
+            self.at = add(self.at, 1);
         }
         value
     }

@@ -1,5 +1,4 @@
 // A stream of numbers that is the same in every run (xorshift, 64 bits).
-ghost use Rattle.std.specs.Prelude.{◌<◌};
 
 #[derive(Clone, Copy)]
 pub struct Random {
@@ -30,10 +29,9 @@ impl Random {
         self.below(100) < percent
     }
 
-    // One of a few.
-    pub fn pick<const N: usize>(&mut self, few: [usize; N]) -> usize
-        requires { 0 < N }
-    {
-        few[self.below(N) % N]
+    // One of a few; 0 where there is none.
+    pub fn pick<const N: usize>(&mut self, few: [usize; N]) -> usize {
+        let i = self.below(N);
+        few.get(i).copied().unwrap_or(0)
     }
 }

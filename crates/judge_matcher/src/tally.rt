@@ -102,8 +102,8 @@ impl<P: Print> Tally<P> {
     }
 
     // Prints what some words of the tally count, and under it those words.
-    pub fn print_counts(&self, names: &str, from: usize, to: usize) -> io::Result<()> {
-        print!(self.out; "{names}")?;
+    pub fn print_counts(&self, names: &[u8], from: usize, to: usize) -> io::Result<()> {
+        self.out.write_all(names)?;
         for count in self.words.iter().take(to).skip(from) {
             print!(self.out; " {count}")?;
         }
@@ -112,36 +112,36 @@ impl<P: Print> Tally<P> {
 
     pub fn print(&self) -> io::Result<()> {
         self.print_counts(
-            "compared: worked cases, graphs and queries read, rows against the matcher, two plans of a query, cache on against off\n",
+            b"compared: worked cases, graphs and queries read, rows against the matcher, two plans of a query, cache on against off\n",
             WORKED,
             SCRATCH,
         )?;
         self.print_counts(
-            "compared: scratch lengths around the need, list of its rows and a word short, words and records untouched, scratch cleared\n",
+            b"compared: scratch lengths around the need, list of its rows and a word short, words and records untouched, scratch cleared\n",
             SCRATCH,
             REFUSED,
         )?;
         self.print_counts(
-            "compared: refused with zeros, damaged graph and change files, records that add up and one short, changes against loading and back\n",
+            b"compared: refused with zeros, damaged graph and change files, records that add up and one short, changes against loading and back\n",
             REFUSED,
             DIFFERED,
         )?;
         self.print_counts(
-            "compared: runs and drawn plans over other edges of labels that the query does not name\n",
+            b"compared: runs and drawn plans over other edges of labels that the query does not name\n",
             OTHERS,
             OTHERS + 1,
         )?;
-        self.print_counts("differed in all\n", DIFFERED, GRAPHS)?;
+        self.print_counts(b"differed in all\n", DIFFERED, GRAPHS)?;
         self.print_counts(
-            "graphs, queries, those with matches and a range of days, with matches and pairs, pairs of unlike plans\n",
+            b"graphs, queries, those with matches and a range of days, with matches and pairs, pairs of unlike plans\n",
             GRAPHS,
             FILLED,
         )?;
         self.print_counts(
-            "plans with rows, with joined rows, where the cache saved, rows\n",
+            b"plans with rows, with joined rows, where the cache saved, rows\n",
             FILLED,
             ROWS + 1,
         )?;
-        self.print_counts("refused with 1 to 30\n", REFUSALS + 1, REFUSALS + 31)
+        self.print_counts(b"refused with 1 to 30\n", REFUSALS + 1, REFUSALS + 31)
     }
 }

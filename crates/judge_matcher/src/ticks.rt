@@ -7,7 +7,7 @@ use judge_inputs::graphs::Graph;
 
 const MAX_MATCHES: usize = 2048;
 
-#[derive(Drop)]
+#[derive(Clone, Copy)]
 pub struct Matches {
     // The rows of the matches, ascending, as far as there is room.
     rows: [u32; MAX_MATCHES],

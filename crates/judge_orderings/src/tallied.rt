@@ -25,26 +25,26 @@ pub const ORDERINGS: usize = 18;
 
 pub fn print(tally: &Tally<impl Print>) -> io::Result<()> {
     tally.print_counts(
-        "compared: lists against the model, lists too short, scratches below the need, over other edges of labels that the query does not name, refusals in order\n",
+        b"compared: lists against the model, lists too short, scratches below the need, over other edges of labels that the query does not name, refusals in order\n",
         LISTED,
         ORDER + 1,
     )?;
     tally.print_counts(
-        "compared: words untouched, scratch cleared, refused with zeros\n",
+        b"compared: words untouched, scratch cleared, refused with zeros\n",
         UNTOUCHED,
         REFUSED + 1,
     )?;
-    tally.print_counts("differed in all\n", DIFFERED, DIFFERED + 1)?;
-    tally.print_counts("graphs, queries\n", GRAPHS, QUERIES + 1)?;
+    tally.print_counts(b"differed in all\n", DIFFERED, DIFFERED + 1)?;
+    tally.print_counts(b"graphs, queries\n", GRAPHS, QUERIES + 1)?;
     tally.print_counts(
-        "queries of more than five vertices, those whose orderings were listed, orderings\n",
+        b"queries of more than five vertices, those whose orderings were listed, orderings\n",
         LARGE,
         ORDERINGS + 1,
     )?;
     tally.print_counts(
-        "refused with 19, 20, 31, 32\n",
+        b"refused with 19, 20, 31, 32\n",
         REFUSALS + 19,
         REFUSALS + 21,
     )?;
-    tally.print_counts("", REFUSALS + 31, REFUSALS + 33)
+    tally.print_counts(b"", REFUSALS + 31, REFUSALS + 33)
 }

@@ -19,26 +19,26 @@ const SEED: u64 = 88172645463325252;
 
 fn print(tally: &Tally<impl Print>) -> io::Result<()> {
     tally.print_counts(
-        "stores of up to 40 vertices: right, damaged and accepted, refused\n",
+        b"stores of up to 40 vertices: right, damaged and accepted, refused\n",
         SMALL,
         SMALL + 3,
     )?;
     tally.print_counts(
-        "stores of 300 to 2,000 vertices, of 1 to 255 labels: right, damaged and accepted, refused\n",
+        b"stores of 300 to 2,000 vertices, of 1 to 255 labels: right, damaged and accepted, refused\n",
         MIDDLE,
         MIDDLE + 3,
     )?;
     tally.print_counts(
-        "stores of 8,192 and 8,193 vertices: right, damaged and accepted, refused\n",
+        b"stores of 8,192 and 8,193 vertices: right, damaged and accepted, refused\n",
         LARGE,
         LARGE + 3,
     )?;
     tally.print_counts(
-        "stores with lists of more than 65,535 entries: right, damaged and accepted, refused\n",
+        b"stores with lists of more than 65,535 entries: right, damaged and accepted, refused\n",
         LONG,
         LONG + 3,
     )?;
-    tally.print_counts("differed in all\n", tally::DIFFERED, tally::DIFFERED + 1)
+    tally.print_counts(b"differed in all\n", tally::DIFFERED, tally::DIFFERED + 1)
 }
 
 fn main(rt: HostRuntime) -> io::Result<()> {

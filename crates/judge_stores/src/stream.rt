@@ -6,7 +6,6 @@ use crate::model;
 use judge_inputs::random::Random;
 use judge_matcher::slices::first;
 use judge_matcher::tally::Tally;
-use refusals::Refusal;
 use store_check::check_store;
 
 // The kinds of stores; after each stand those that were damaged and accepted, and those refused.
@@ -45,6 +44,14 @@ const LONGS: [Shape; 2] = [
     },
 ];
 
+// The number of the store check's refusal, 0 for none.
+fn fault(s: &[u32]) -> u32 {
+    match check_store(s) {
+        Ok(()) => 0,
+        Err(refusal) => refusal.number(),
+    }
+}
+
 // The store that is judged, and the words in which the model makes another.
 #[derive(Drop)]
 struct Stores<'a> {
@@ -57,13 +64,9 @@ impl<'a> Stores<'a> {
     fn judge_words(&mut self, words: usize, kind: usize, tally: &mut Tally<impl Print>) {
         let s = first(self.words, words);
         let right = model::is_store(s, self.copy);
-        let expected = if right {
-            Ok(())
-        } else {
-            Err(Refusal::StoreDamaged)
-        };
+        let expected = if right { 0 } else { 19 };
         let after = if right { 1 } else { 2 };
-        tally.judge(kind.wrapping_add(after), check_store(s) == expected);
+        tally.judge(kind.wrapping_add(after), fault(s) == expected);
     }
 
     // A store as it was made is right, also with words past it; without its last word it is not.
@@ -71,11 +74,10 @@ impl<'a> Stores<'a> {
         let words = l.used();
         let exact = first(self.words, words);
         let made = model::is_store(exact, self.copy);
-        let same = check_store(exact).is_ok();
-        let longer = check_store(first(self.words, words.wrapping_add(3))).is_ok();
-        let shorter = check_store(first(self.words, words.wrapping_sub(1)));
-        let refused = shorter == Err(Refusal::StoreDamaged);
-        tally.judge(kind, made && same && longer && refused);
+        let same = fault(exact) == 0;
+        let longer = fault(first(self.words, words.wrapping_add(3))) == 0;
+        let shorter = fault(first(self.words, words.wrapping_sub(1))) == 19;
+        tally.judge(kind, made && same && longer && shorter);
     }
 
     // A damage, and in every third store a second one.
