@@ -58,7 +58,8 @@ pub fn copy(from: &[u32], count: usize, to: &mut [u32])
     to[..count].copy_from_slice(&from[..count]);
 }
 
-// The `count` words from `from` on, moved down to the front of their part.
+// The `count` words from `from` on, moved down to the front of their part. A loop, since in a page, which is
+// compiled for 32 bits, the library's `copy_within` loses the ends of its range (docs/DESIGN-PASS.md).
 pub fn move_down(part: &mut [u32], from: usize, count: usize)
     requires { from + count ≤ length part.old }
     ensures { part.new ≡ take count (drop from part.old)
