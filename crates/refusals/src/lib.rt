@@ -1,7 +1,7 @@
 // The refusals: an enum, each with the number by which callers from outside know it. The conditions, and the
 // order in which faults are looked for, are definitions of each operation and have the numbers. No operation
-// gives 23 any more. `specs/Refusals.antt` has the numbers as a definition, and the fault that an outcome
-// stands for; `proofs/Laws.antt` that no refusal has the number 0.
+// gives 23 any more. `specs/Inner/Refusals.antt` has the numbers as a definition, and the fault that an
+// outcome stands for; `proofs/Laws.antt` that no refusal has the number 0.
 #![tactic(auto)]
 
 ghost use Rattle.std.specs.Prelude.{◌≡◌};
